@@ -3,8 +3,9 @@
 //   node bench/commands.mjs [--rounds N] [--symq FILE] [--typescript DIR] [--commands NAME,..] FOLDER..
 //
 // In each round three processes run one after the other: the service; the command without cached trees, but with TypeScript's compiled
-// form, which any earlier run caches; and the command with the trees and the graph of the run before. Both take the TypeScript in DIR, or
-// the newest that is installed, and read the modules of TypeScript below the directory. Both write what they find to a pipe.
+// form, which any earlier run caches; and the command with what the run before cached: the trees and the graph, and of `api --html` and
+// `diff` the page and the surface. Both take the TypeScript in DIR, or the newest that is installed, and read the modules of TypeScript
+// below the directory. Both write what they find to a pipe.
 // It prints the least times of the rounds, their ratios to the service's, on the clock and of the processors, and how much each found. The
 // last lines are a table: ratios on the clock, cold and cached.
 import { existsSync, mkdtempSync, rmSync } from 'node:fs';

@@ -41,5 +41,5 @@ export function timeText(time, other) {
 
 /** @param {string} folder a cache, whose trees and graphs are removed */
 export function forgetTrees(folder) {
-  for (const it of readdirSync(folder)) if (/\.(trees|graph)$/.test(it)) rmSync(path.join(folder, it));
+  for (const it of readdirSync(folder)) if (/\.(trees|graph|result)$/.test(it)) rmSync(path.join(folder, it));
 }

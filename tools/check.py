@@ -35,7 +35,7 @@ def commands(symq, symq_tables):
     yield 'the model', [*model, 'model']
     yield 'stored cases', tool('run_cases.py', '--programs', symq, symq_tables)
     yield 'documents', ['env', 'SYMQ=' + symq, *tool('docs.py')]
-    for name in ('kinds', 'public_names', 'words', 'quotes', 'edit_counts', 'test_docs', 'test_kinds', 'test_public_names', 'test_prove', 'test_words'):
+    for name in ('kinds', 'public_names', 'words', 'quotes', 'edit_counts', 'test_docs', 'test_kinds', 'test_mutants', 'test_public_names', 'test_prove', 'test_words'):
         yield name, tool(name + '.py')
 
 

@@ -12,7 +12,7 @@ The checks of the documents, which are all files *.md:
     all documents have at most 2,900 lines together
     docs/ARCHITECTURE.md has at most 250 lines
     docs/DEFINITIONS.md has at most 60 notions, and each definition that it names exists
-    each clause and each mutant that docs/PROVED.md names exists, and the trusted definitions have as many lines as it says
+    each clause and each mutant that docs/PROVED.md names exists, and the trusted definitions have about as many lines as it says
     the quotes of docs/CALLING.md are those of the sources, as tools/quotes.py makes them
     each console block prints what it shows when it is run
 
@@ -35,6 +35,8 @@ from wrong.crates import Crate, libraries_of
 
 TOP = os.path.dirname(os.path.dirname(os.path.abspath(__file__)))
 WORDS, LINES, MAP_LINES, NOTIONS = 35, 2900, 250, 60
+# by how much of itself a count of lines may differ from what a document says
+NEAR = 0.05
 # documents with a length limit of their own
 MAP, GLOSSARY, PROMISES = 'docs/ARCHITECTURE.md', 'docs/DEFINITIONS.md', 'docs/PROVED.md'
 # files of specs/ that needn't be trusted, and lines that don't count
@@ -147,7 +149,7 @@ def trusted_lines(top):
 
 def promises(top, text):
     """Yields each clause and each mutant of the rows of promises, with whether it exists."""
-    libraries, crates = libraries_of(top), {}
+    libraries, crates, mutants = libraries_of(top), {}, {}
     for row in re.findall(r'^\| .* \| (`\w+::.*) \| (`.*`) \|$', text, re.M):
         for clause in re.findall(r'`([^`]*)`', row[0]):
             name, path, last = words_of_clause(clause)
@@ -155,7 +157,9 @@ def promises(top, text):
             yield clause, bool(own and path and (ensures(own, path, last, False) or has_law(own, path, last)))
         for mutant in re.findall(r'`([^`]*)`', row[1]):
             name, _, edit = mutant.partition('/')
-            yield mutant, os.path.exists(os.path.join(top, 'crates', name, 'wrong', edit + '.edit'))
+            if name not in mutants:
+                mutants[name] = Crate(top, name, libraries).names() if name in libraries else []
+            yield mutant, edit in mutants[name]
 
 
 def definitions(top, text):
@@ -243,8 +247,9 @@ def text_checks(top):
         yield from quotes.checks(top)
     if PROMISES in documents:
         yield PROMISES + ': clauses and mutants that are not there', [it for it, is_there in promises(top, documents[PROMISES]) if not is_there], []
-        said = re.findall(r'([\d,]+) lines without comments', documents[PROMISES])
-        yield PROMISES + ': lines of trusted definitions', said, ['{:,}'.format(trusted_lines(top))]
+        said, lines = re.findall(r'about ([\d,]+) lines without comments', documents[PROMISES]), trusted_lines(top)
+        is_near = len(said) == 1 and abs(int(said[0].replace(',', '')) - lines) <= NEAR * lines
+        yield PROMISES + ': lines of trusted definitions', said, said if is_near else ['{:,}'.format(lines)]
     for name in files_below(os.path.join(top, 'crates'), '.rt'):
         yield 'crates/%s: doc comments' % name, wrong_comments(read(os.path.join(top, 'crates', name))), []
 

@@ -183,7 +183,7 @@ def all_parts():
     with tempfile.TemporaryDirectory(prefix='gate-') as folder, ThreadPoolExecutor(len(names) + 8) as pool:
         proofs, lanes = Proofs(laid(folder, 'built')), laid(folder, 'lanes', max(2, processors - 1))
         tasks = [pool.submit(proofs_part, proofs), pool.submit(borrows_part, proofs), pool.submit(bindings_part, proofs)]
-        tasks += [pool.submit(tests_part, name) for name in ('wrong_bodies.py', 'public_names.py', 'kinds.py', 'prove.py', 'docs.py', 'words.py')]
+        tasks += [pool.submit(tests_part, name) for name in ('wrong_bodies.py', 'mutants.py', 'public_names.py', 'kinds.py', 'prove.py', 'docs.py', 'words.py')]
         tasks += [pool.submit(model_part, 'model'), pool.submit(shown_part, lanes)]
         tasks += [pool.submit(wrong_bodies_part, name, libraries, proofs, lanes, turn) for name in names]
         parts = [it.result() for it in tasks]
@@ -193,6 +193,7 @@ def all_parts():
     parts.append(Part('plain graphs').run(tool('run_plain.py')))
     parts += [model_part('program'), Part('symdir').run(tool('run_symdir.py'))]
     parts += [Part('refused calls').run(tool('run_refusing.py')), Part('long ways').run(tool('run_deep.py'))]
+    parts.append(Part('evidence: long ways').run(tool('run_deep.py', '--model')))
     parts.append(Part('floods').run(tool('run_flood.py')))
     return parts + [Part('cases').run(tool('run_cases.py', '--proved'))]
 

@@ -17,7 +17,8 @@ entries, and with the first sentence of its comment: itself with its fields or v
 and a row is wrong if it can't be read or has entries of several items. A public name of a library lacks a row if no row names it at one of its locations.
 Libraries are the crates of crates.txt that have src/lib.rt, except for those whose names end in `_test_support`, which only tests use. Public is what a
 user can write: `pub` items that are reachable by `pub mod` and `pub use` from the crate's root, their `pub` fields and methods, variants, the items of a
-trait, and traits that are implemented by hand. Items for contracts alone aren't public: `ghost` parts, and the trait `Model`.
+trait, and traits that are implemented by hand. Items for contracts alone aren't public: `ghost` parts, and the trait `Model`. Kinds and categories, which
+tools/kinds.py generates, are in docs/GRAPH.md.
 
 The page also has to be as it is generated. The sources are read in the layout of `rt fmt`, and unsupported forms fail too: `pub use` of all names, or of
 one that doesn't exist, a module within a file, two items of one name in a crate. Each fault has a line, and each name without a row has the row that it
@@ -28,6 +29,7 @@ import re
 import sys
 from dataclasses import dataclass, field
 
+from kinds.lines import MARK
 from wrong.crates import IMPL, TOP, read, write
 
 NOT_YET, LEFT_OUT = 'not there yet', 'left out'
@@ -35,8 +37,6 @@ NOT_YET, LEFT_OUT = 'not there yet', 'left out'
 END = '## Left out'
 # the end of the names of libraries that only tests use
 OF_TESTS = '_test_support'
-# enums whose variants have their fields in docs/GRAPH.md
-TREES = 'deno_symbols::tree'
 
 LINK = re.compile(r'\[([^]]*)\]\([^)]*\)')
 ROW = re.compile(r'\| (`[^`]+`(?:, `[^`]+`)*) \| ([^|]+?) \|.*')
@@ -188,7 +188,18 @@ def read_module(text):
             module.unread.append(lines[0])
         words = DERIVE.search(whole) if whole.startswith('#') else None
         derived = set(re.findall(r'\w+', words[1])) if words else derived if whole.startswith('#') else set()
+    if text.startswith('// ' + MARK):
+        leave_variants(module)
     return module
+
+
+def leave_variants(module):
+    """Leaves the kinds and categories out, which docs/GRAPH.md has from the same table. An enum stays whole whose variants are items of the module."""
+    for item in module.items.values():
+        variants = [it for it in item.order if re.match('::[A-Z]', it)]
+        if any(it[2:] not in module.items for it in variants):
+            item.order, item.fields = [it for it in item.order if it not in variants], {}
+            item.parts -= set(variants)
 
 
 class Sources:
@@ -377,9 +388,9 @@ def unlike(folder):
     return found or ([] if lines == others else ['the lines are made in another order'])
 
 
-def with_fields(item, part, place):
-    """Returns a variant with its fields, unless they are those of a kind, or a field of a struct."""
-    fields = item.fields.get(part.lstrip(':'), ()) if place != TREES else ()
+def with_fields(item, part):
+    """Returns a variant with its fields, or a field of a struct."""
+    fields = item.fields.get(part.lstrip(':'), ())
     return part.lstrip(':.') + (' { %s }' % ', '.join(fields) if fields else '')
 
 
@@ -387,7 +398,7 @@ def row_for(item, place, name):
     """Returns the row of an item at its location: itself with its fields or variants, numbered fields, methods, traits."""
     held = [it for it in item.order if it[0] == '.' and not it[1:].isdigit() or it.startswith('::') and it[2:3].isupper()]
     methods = [it[2:] for it in item.order if it.startswith('::') and not it[2:3].isupper()]
-    names = [name + (' { %s }' % ', '.join(with_fields(item, it, place) for it in held) if held else '')]
+    names = [name + (' { %s }' % ', '.join(with_fields(item, it) for it in held) if held else '')]
     names += [name + it for it in item.order if it[0] == '.' and it[1:].isdigit()]
     names += ['%s::{%s}' % (name, ', '.join(methods))] if methods else []
     names += ['%s: %s' % (name, ', '.join(sorted(item.traits)))] if item.traits else []

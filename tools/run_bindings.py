@@ -8,7 +8,8 @@
 The library is packed into a directory of its own. `symq.h` has to declare the exports of the crate, with the types of the arguments, and a
 session with those of its fields; `bindings/c/example.c` is compiled with every warning as an error and answers the cases, by one call and by
 a session, each with keys and without; so do the tests in Python and in Rust, which is built without and with its feature.
-`tests/library/refusing.c` is a host whose allocator fails call after call. The last line is 'N passed, M failed'.
+`tests/library/refusing.c` is a host whose allocator fails call after call, and `tests/library/deep.c` one that calls about long chains in a thread
+with a small stack. The last line is 'N passed, M failed'.
 """
 import argparse
 import glob
@@ -20,6 +21,7 @@ import sys
 import tempfile
 from concurrent.futures import ThreadPoolExecutor
 
+import run_deep
 from kept import keep, sum_of
 from pack_library import ARCHIVE, HEADER, TOP, kit_folder, pack
 from run_cases import SORTS, TESTS, all_cases, run_program
@@ -31,6 +33,8 @@ from wrong.rooms import words_of
 
 SOURCES = os.path.join(TOP, 'crates', 'symq_c', 'src')
 BINDINGS = os.path.join(TOP, 'bindings')
+# the length of the chains
+LINKS = 100_000
 WARNINGS = ['-std=c99', '-Wall', '-Wextra', '-Wpedantic', '-Werror', '-O1']
 # the C types of an export's types
 TYPES = {'Global': [], '&[u8]': ['const uint8_t *', 'size_t'], '&mut [u8]': ['uint8_t *', 'size_t'],
@@ -125,6 +129,12 @@ def refused(folder):
     return found
 
 
+def in_small_threads(folder):
+    """Calls the library about long chains in a thread with a small stack."""
+    host = compiled(folder, os.path.join(TESTS, 'library', 'deep.c'), 'deep')
+    return {'deep: ' + name: text for name, text in run_deep.rows(run_deep.by_host(host), run_deep.shapes(LINKS))}
+
+
 def through_python(folder):
     """Runs the tests of the package in Python. Returns what failed, test by test, or why none ran."""
     words = [sys.executable, '-m', 'unittest', 'discover', '-v', os.path.join(BINDINGS, 'python', 'tests')]
@@ -178,7 +188,7 @@ def main(words):
     with tempfile.TemporaryDirectory(prefix='symq-') as folder:
         pack(folder, built(os.path.join(folder, 'libsymq_c.a'), args.libraries) if args.libraries else args.archive)
         found = differences()
-        for part in (through_c, refused, through_python, through_rust):
+        for part in (through_c, refused, in_small_threads, through_python, through_rust):
             found.update(part(folder))
     return report(sorted(found.items()))
 

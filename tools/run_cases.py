@@ -60,7 +60,7 @@ def folder_cases(sort, name, program, output):
     folder = os.path.join(TESTS, sort, name)
     words = read(folder, 'args', None)
     if words is not None:
-        words = words.decode().splitlines()
+        words = words.decode(errors='surrogateescape').splitlines()
     want = Outcome(int(read(folder, 'status', b'0')), read(folder, output), read(folder, 'stderr'))
     graph = read(folder, 'graph.json', None)
     case = Case(sort + '/' + name, program, graph, words, read(folder, 'queries'), want)
@@ -146,7 +146,7 @@ def write_trial(folder, key, case, word=''):
     words = [graph] if case.words is None else [graph if it == 'graph.json' and case.graph is not None else it for it in case.words]
     trials = os.path.join(folder, 'trials')
     write(trials, key, case.given)
-    write(trials, key + '.args', ''.join(word + '\n' for word in words).encode())
+    write(trials, key + '.args', ''.join(word + '\n' for word in words).encode(errors='surrogateescape'))
 
 
 def trial_outcomes(output, report):

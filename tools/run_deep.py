@@ -1,89 +1,90 @@
 #!/usr/bin/env python3
 """Queries the program about long chains, with a small stack: the depth of a graph has no bound there.
 
-    python3 tools/run_deep.py           the proved program, crates/symq/out/symq
-    python3 tools/run_deep.py SYMQ      the program at this path
+    python3 tools/run_deep.py                   the proved program, crates/symq/out/symq
+    python3 tools/run_deep.py SYMQ              the program at this path
+    python3 tools/run_deep.py --links N ..      chains of this length, in place of `LINKS`
+    python3 tools/run_deep.py --model           small chains, and the model of evidence/ in place of the program
+    python3 tools/run_deep.py --host HOST       the library, by the program of tests/library/deep.c at this path
 
-Each check makes a graph, answers one or more lines with a stack of `STACK` bytes, and compares the answers with those that
-follow from the construction of the graph. The last line is 'N passed, M failed'.
+Each shape of `deep_graphs.py` is queried with a stack of `STACK` bytes, by Deno's rules and by strict ones, and the answers are compared with
+those that follow from the construction of the graph. The last line is 'N passed, M failed'.
 """
-import json
+import argparse
 import os
 import sys
 import tempfile
 
-from runner import Limits, Outcome, programs, report, run
+from deep_graphs import LONG, WIDE
+from runner import ROOT, Limits, Outcome, programs, report, run
 
-STACK, MANY = 256 * 1024, 200_000
-
-
-def named(number):
-    return 'm%d' % number
-
-
-def star_to(number, target):
-    """Returns a module with `export *` from another one, and its resolution."""
-    tree = {'nodes': [{'kind': 'Program', 'range': [0, 1], 'body': [1]}, {'kind': 'ExportAll', 'range': [0, 1], 'src': named(target)}]}
-    return {'specifier': named(number), 'kind': 'esm', 'text': ' ', 'tree': tree}, [named(number), named(target), named(target)]
+STACK, LINKS, SMALL = 256 * 1024, 1_000_000, (1, 2, 3, 5)
+# by strict rules, and of wide shapes by both, chains have a part of these links
+PART = 5
+# the options of the program, and the field of a question with its answer
+RULES = (((), 'answer'), (('--strict',), 'strict'))
+MODEL = os.path.join(ROOT, 'evidence', 'model', 'symq.py')
 
 
-def owner_of(number, name, target=None):
-    """Returns a module that exports a variable; if a target is given, it has `export *` from the target before it."""
-    nodes = [{'kind': 'Program', 'range': [0, 1], 'body': [1]}, {'kind': 'ExportDecl', 'range': [0, 1], 'decl': 2},
-             {'kind': 'VarDecl', 'range': [0, 1], 'decls': [3]}, {'kind': 'VarDeclarator', 'range': [0, 1], 'name': 4},
-             {'kind': 'BindingIdent', 'range': [0, 1], 'sym': [name, 1]}]
-    resolution = []
-    if target is not None:
-        nodes[0]['body'].insert(0, 5)
-        nodes.append({'kind': 'ExportAll', 'range': [0, 1], 'src': named(target)})
-        resolution = [[named(number), named(target), named(target)]]
-    return {'specifier': named(number), 'kind': 'esm', 'text': ' ', 'tree': {'nodes': nodes}}, resolution
+def lines_of(texts):
+    return ''.join(it + '\n' for it in texts).encode()
 
 
-def row(length, back=None):
-    """Returns modules each with `export *` from the next; the last exports a name locally, and may have `export *` from an earlier one."""
-    modules, resolutions = [], []
-    for number in range(length - 1):
-        module, resolution = star_to(number, number + 1)
-        modules.append(module)
-        resolutions.append(resolution)
-    module, resolution = owner_of(length - 1, 'x', back)
-    return {'modules': [*modules, module], 'resolutions': resolutions + resolution}
+def wrong_with(got, questions, field):
+    """Returns what is wrong with a run, or nothing."""
+    if got == Outcome(0, lines_of(getattr(it, field) for it in questions), b''):
+        return ''
+    lines = got.output.decode(errors='replace').split('\n')
+    asked = [it.query for it, line in zip(questions, lines) if getattr(it, field) != line]
+    return 'status %d, %d bytes of answers, standard error %r; not as expected: %s' % (got.status, len(got.output), got.error[:200], ' '.join(asked))
 
 
-def export_along(numbers, owner):
-    """Returns the export of the exporting module, along the statements of these modules, each to the next number."""
-    chain = [[named(it), named(it + 1)] for it in numbers]
-    return {'chain': chain, 'module': named(owner), 'name': 'x', 'symbol': 1}
+def by_program(words, limits):
+    """Returns a run of a program on a graph's file and lines."""
+    return lambda options, place, lines, _: run(words[0], [*words[1:], *options, place], lines, limits)
 
 
-def checks():
-    """Yields the checks: a name, a graph, queries and answers."""
-    last = MANY - 1
-    along = {'exports': [export_along(range(last), last)], 'unresolved': []}
-    yield 'exports of modules in a row', row(MANY), [['exports', 'm0']], [along]
-    own = {'exports': [export_along([], last)], 'unresolved': []}
-    yield 'exports of modules in a ring', row(MANY, 0), [['exports', 'm0'], ['exports', named(last)]], [along, own]
+def by_host(host):
+    """Returns a call of the library, with so much room for the answers, in a thread with a small stack."""
+    def called(options, place, lines, room):
+        with open(place + '.lines', 'wb') as file:
+            file.write(lines)
+        return run(host, [*options, place, file.name, str(STACK), str(room)])
+    return called
 
 
-def told(lines):
-    return ''.join(json.dumps(it, separators=(',', ':'), sort_keys=True) + '\n' for it in lines).encode()
+def shapes(links):
+    """Returns the shapes, each with the length of its chain and rules."""
+    deno, strict = RULES
+    return [*((it, links, [deno]) for it in LONG), *((it, links // PART, [strict]) for it in LONG), *((it, links // PART, RULES) for it in WIDE)]
 
 
-def rows(path):
-    """Yields the name of each check, and what is wrong with its run with a small stack."""
+def rows(called, chosen):
+    """Yields the name of each shape and kind of rules, and what is wrong with its run."""
     with tempfile.TemporaryDirectory(prefix='deep-') as folder:
         place = os.path.join(folder, 'graph.json')
-        for name, graph, queries, answers in checks():
+        for shape, links, rules in chosen:
+            graph, questions = shape(links)
             with open(place, 'w', encoding='utf-8') as file:
-                json.dump(graph, file)
-            got = run(path, [place], told(queries), Limits(stack=STACK))
-            is_right = got == Outcome(0, told(answers), b'')
-            yield name, '' if is_right else 'status %d, %d bytes of answers, standard error %r' % (got.status, len(got.output), got.error[:200])
+                file.writelines(graph)
+            for options, field in rules:
+                room = len(lines_of(getattr(it, field) for it in questions))
+                got = called(options, place, lines_of(it.query for it in questions), room)
+                yield ' '.join([shape.__name__, str(links), *options]), wrong_with(got, questions, field)
 
 
 def main(words):
-    return report(rows(programs(words)[0]))
+    parser = argparse.ArgumentParser(description='Queries about long chains, with a small stack.')
+    parser.add_argument('--links', type=int, default=LINKS, help='the length of the chains')
+    parser.add_argument('--model', action='store_true', help='compares the answers about small chains with those of the model')
+    parser.add_argument('--host', help='calls the library by this program')
+    parser.add_argument('program', nargs='*', metavar='SYMQ', help='the program')
+    args = parser.parse_args(words)
+    if args.model:
+        small = [(shape, links, RULES) for shape in (*LONG, *WIDE) for links in SMALL]
+        return report(rows(by_program([sys.executable, MODEL], Limits()), small))
+    called = by_host(args.host) if args.host else by_program(programs(args.program), Limits(stack=STACK))
+    return report(rows(called, shapes(args.links)))
 
 
 if __name__ == '__main__':

@@ -62,7 +62,7 @@ pub fn make() -> u8
 ''',
     'crates/low/specs/Names.antt': '-- a name\nuse Rattle.std.specs.Prelude.{ℕ}\n\nabbrev pub called : ℕ\ncalled = 1\n',
     'crates/low/specs/inner/Parts.antt': 'abbrev pub part : ℕ\npart = 2\n',
-    'crates/low/wrong/another.edit': 'file: src/lib.rt\nold: 1\nnew: 2\n',
+    'crates/low/wrong/mutants': 'mutant: another\nfile: src/lib.rt\nold: 1\nnew: 2\n',
     'crates/library_example/src/main.rt': 'fn main() {}\n',
     'examples/shapes/a.ts': 'export const a = 1;\n',
     'README.md': '''# A repository
@@ -83,7 +83,7 @@ one name
 |---|---|---|
 | It has a name. | `low::Kept::name named`, `low::Kept sound`, `low::lend` | `low/another` |
 
-2 lines without comments.
+about 2 lines without comments.
 ''',
     'docs/CALLING.md': '''# Calling
 

@@ -94,7 +94,8 @@ def with_new_kinds():
     with laid() as folder:
         write(os.path.join(folder, TABLE), TEXT.replace(kinds, NEW_KINDS + kinds).replace(categories, NEW_CATEGORIES + categories))
         differ = said_of(folder, True)[0]
-        lack = [(name, text) for name, text in MADE if read(folder, name).count(text) != 1]
+        made = [*MADE, (GRAPH, 'All %d kinds, with all their fields.' % (len(table_of(TEXT).kinds()) + NEW_KINDS.count('\nkind ')))]
+        lack = [(name, text) for name, text in made if read(folder, name).count(text) != 1]
         write(os.path.join(folder, TABLE), TEXT)
         said_of(folder, True)
         return [it.split(':')[0] for it in differ], lack, [name for name, text in FILES.items() if read(folder, name) != text]

@@ -12,6 +12,7 @@ import tempfile
 
 from tested import told
 import public_names
+from kinds.lines import MARK
 from wrong.crates import read, write
 
 FILES = {
@@ -256,6 +257,48 @@ def of_made(file='', change=('', '')):
         return page, first, public_names.check(folder)[1] + public_names.unlike(folder)
 
 
+# a generated module: kinds, and an enum of enums
+KINDS = """// %s
+//! Kinds.
+
+/// A kind.
+pub enum Kind {
+    Amount(Amount),
+    Text(Text),
+}
+
+pub enum Amount {
+    Whole {
+        digits: u8,
+    },
+}
+
+pub enum Text {
+    Plain,
+}
+
+impl Kind {
+    pub fn name(&self) -> u8 {
+        1
+    }
+}
+""" % MARK
+
+
+def tests_of_kinds():
+    """Tests that kinds, which a table generates, are left to the page on graphs."""
+    for text, want in ((KINDS, ['Kind { Amount, Text }`, `Kind::{name}', 'Amount', 'Text']),
+                       (KINDS.replace(MARK, 'By hand.'), ['Kind { Amount, Text }`, `Kind::{name}', 'Amount { Whole { digits } }', 'Text { Plain }'])):
+        with tempfile.TemporaryDirectory() as folder:
+            laid(folder)
+            write(os.path.join(folder, 'crates/high/src/lib.rt'), 'pub mod view;\n')
+            write(os.path.join(folder, 'crates/high/src/view.rt'), text)
+            page = public_names.made(folder, PAGE)
+            write(os.path.join(folder, TABLE), page)
+            yield 'rows of kinds', re.findall(r'^\| `(.*)` \| `high::view` \|', page, re.M), want
+            yield 'the page is right', public_names.check(folder)[1] + public_names.unlike(folder), []
+
+
 def made_tests():
     page, first, _ = of_made()
     yield 'a page that is made is right', first, []
@@ -287,6 +330,7 @@ def tests():
     yield 'entries are moved together', moved(both, two), (['| `Made::later`, `Made::latest` | `low` |'], [])
     yield 'a row whose names are not there is not moved', moved(('    fn own', '    fn later'), two), ([two], [])
     yield from made_tests()
+    yield from tests_of_kinds()
     yield 'a left out row is not moved', moved(('    fn own', '    pub fn gone'))[0], []
 
 

@@ -15,6 +15,7 @@ import run_cases
 from tested import told
 from wrong import clauses, record, shown
 from wrong.crates import TOP, Crate, Edit, Function, kit, libraries_of, read, write
+from wrong.mutants import FILE
 from wrong.outcomes import run_named, try_crate
 from wrong.rooms import TO_NO_GOAL, Lanes, Room, with_answer_to_no_goal, words_of
 from wrong.trying import tried_all
@@ -319,6 +320,8 @@ BESIDES = {
     'marks_are_equal_by_hand': 'in: Mark::is_same\nimpl: impl PartialEq for Mark { ghost use Rattle.std.specs.Prelude.{nat_eq}; ghost use Rattle.std.specs.Ordering.{on}; ghost use Rattle.std.proofs.Common.{rules}; ghost use Rattle.std.specs.Cmp.Rules.{comparing}; ghost eq = { on (λ m. m.value) nat_eq }; ghost laws = { Prim.search (comparing, rules) }; fn eq(&self, other: &Mark) -> bool { self.value == other.value } }\n',
     'marks_are_hashed_by_hand': 'in: Mark::is_same\nimpl: impl Hash for Mark { }\n',
 }
+# what edits name that can be made, after what shows one wrong is found
+SHOWN = {name: shown for name, *_, shown in EDITS if shown} | {'twice_and_two': 'small_tests/numbers::doubles'}
 # the results of the runs that edits name: empty if a test shows the edit wrong
 RUNS = {
     'twice_and_one': '',
@@ -344,9 +347,12 @@ def lay(folder, source):
     for path, text in FILES.items():
         write(os.path.join(crate, path), text)
     write(os.path.join(crate, 'src', 'lib.rt'), source)
+    sections = []
     for name, pairs, _, shown in EDITS:
-        text = 'file: src/lib.rt\n' + BESIDES.get(name, '') + ''.join('old: %s\nnew: %s\n' % pair for pair in pairs)
-        write(os.path.join(crate, 'wrong', name + '.edit'), text + ('shown: %s\n' % shown if shown else ''))
+        lines = ['mutant: ' + name, 'file: src/lib.rt', *BESIDES.get(name, '').splitlines()]
+        lines += [it for old, new in pairs for it in ('old: ' + old, 'new: ' + new)]
+        sections.append('\n'.join([*lines, *(['shown: ' + shown] if shown else []), '']))
+    write(os.path.join(crate, FILE), '\n'.join(sections))
     return Crate(folder, 'small', libraries_of(folder))
 
 
@@ -370,6 +376,7 @@ def tests_of_outcomes(folder):
     for name, _, how, _ in EDITS:
         yield name, found.get(name), how
     yield 'what shows an edit wrong is found, and written into it', crate.edit('twice_and_two').shown, 'small_tests/numbers::doubles'
+    yield 'and into no other', {it.name: it.shown for it in crate.edits(crate.names())[0] if it.shown}, SHOWN
     yield 'what passes is recorded, and nothing else', sorted(record.recorded(crate)), sorted(name for name, _, how, _ in EDITS if how in RECORDED)
 
 

@@ -12,10 +12,11 @@ contract doesn't allow.
     python3 tools/wrong_bodies.py --libraries FOLDER .. over the built libraries of a directory, NAME.rlib
     python3 tools/wrong_bodies.py --lanes FOLDER ..     as many checks at once, with those of others, as the directory has files
 
-An edit is a file crates/CRATE/wrong/EDIT.edit with a line 'file: src/FILE.rt' and pairs of lines 'old: TEXT' and
-'new: TEXT'. Each old text is in that file exactly once, after the earlier pairs are applied, and an edit changes only one
-function. A line 'in: MODULE::TYPE::FUNCTION' names that function, and its texts may be in others, too. A line 'impl: TEXT'
-writes an impl by hand in place of the one that a type of the file derives.
+The file crates/CRATE/wrong/mutants has a section for each edit: a line 'mutant: EDIT', a line 'file: src/FILE.rt' and pairs of
+lines 'old: TEXT' and 'new: TEXT', up to an empty line. Each old text is in that file exactly once, after the earlier pairs are
+applied, and an edit changes only one function. A line 'in: MODULE::TYPE::FUNCTION' names that function, and its texts may be in
+others, too. A line 'impl: TEXT' writes an impl by hand in place of the one that a type of the file derives. Sections are sorted
+by file and name, and a malformed one ends the program with its file and line.
 
 A check proves function by function, from the contracts of what a function calls. So one check tries an edit in each of
 many functions, on a copy of the crate in which each unchecked function has `unreachable!()` for its body and a

@@ -1,5 +1,7 @@
 """The known differences between the crate and `symq`, and how random graphs avoid them."""
 import copy
+import os
+import re
 
 from graphs.broken import child_fields
 from rules.faults import BadQuery
@@ -10,8 +12,10 @@ from rules.symbols import WHITE_SPACE
 
 PANIC = b'{"fault":"panic"}'
 
-# the forms of queries that the crate has no call for
-OWN_FORMS = ('names',)
+# the forms of queries that the program over the crate reads: those that the crate has a call for, and its own `table`
+QUERIES = os.path.join(os.path.dirname(os.path.abspath(__file__)), 'program', 'src', 'query.rs')
+with open(QUERIES, encoding='utf-8') as file:
+    CRATE_FORMS = set(re.findall(r'^        \("(\w+)", \[.*\]\) => Query::', file.read(), re.M))
 
 # the fields of kinds that have a pattern
 PATTERN_FIELDS = {(kind, name) for kind, fields in FIELDS.items() for name, _, allowed in fields
@@ -21,7 +25,8 @@ PATTERN_FIELDS = {(kind, name) for kind, fields in FIELDS.items() for name, _, a
 def is_own(line) -> bool:
     """Returns whether a line is a query that the crate has no call for."""
     try:
-        return read_query(line).form in OWN_FORMS
+        query = read_query(line)
+        return query.for_inputs or query.form not in CRATE_FORMS
     except BadQuery:
         return False
 

@@ -2,12 +2,12 @@
 """The part of the full check for the model.
 
     python3 evidence/model/gate.py model                  the model's rows and self-check, and the differ's own test
-    python3 evidence/model/gate.py program [PROGRAM]      the program beside the rows, faults around it, and random graphs
+    python3 evidence/model/gate.py program [PROGRAM]      the program beside the rows, faults around it, random graphs and pairs
     python3 evidence/model/gate.py all [PROGRAM]          both
 
 PROGRAM is `crates/symq/out/symq` by default; the first form needs none. The seeds come from the number of commits, so that
-each state is tried with other graphs: those from 100,000 times that number on, for 60 seconds. The last line is
-`N passed, M failed`.
+each state is tried with other graphs: those from 100,000 times that number on, for 60 seconds, and for 30 pairs of graphs that differ
+in one place. The last line is `N passed, M failed`.
 """
 import argparse
 import os
@@ -52,7 +52,8 @@ def of_model(seeds) -> list:
 def of_program(seeds, program, seconds) -> list:
     return [part('worked rows, the program', 'run_rows.py', program),
             part('faults around the program', 'test_differ.py', program),
-            part('random graphs', 'compare.py', program, '--seeds', seeds, '--seconds', seconds)]
+            part('random graphs', 'compare.py', program, '--seeds', seeds, '--seconds', seconds),
+            part('pairs of graphs', 'changed.py', program, '--seeds', seeds, '--seconds', str(min(30.0, float(seconds))))]
 
 
 def main() -> int:

@@ -3,9 +3,9 @@
 
     python3 evidence/model/seen.py --seeds 0..300
 
-What a query looks up is written here a second time, from crates/symbols_locality/specs. All else in the graph is changed at
-random: modules are removed, added, or given other content, resolutions and redirects likewise. The model has to give the same
-answer by both rules. Then each way of looking up is left out in turn, and some answer has to differ. The last line is
+What a query looks up is written here a second time, from crates/symbols_answers/specs, and compared with its inputs. All else in the
+graph is changed at random: modules are removed, added, or given other content, resolutions and redirects likewise. The model has to
+give the same answer by both rules. Then each way of looking up is left out in turn, and some answer has to differ. The last line is
 `N passed, M failed`: one for what is defined, and one for each way.
 """
 import argparse
@@ -18,6 +18,7 @@ from graphs.cases import case_of_seed
 from rules.answers import answer_line
 from rules.checker import check_graph
 from rules.faults import BadQuery, GraphFault
+from rules.inputs import looked_up
 from rules.queries import read_query
 from rules.raw_graph import graph_of_value
 from rules.root import Root
@@ -44,19 +45,21 @@ def followed(graph, query, module, out) -> 'set[str]':
 
 def seen(graph, query, out=None) -> 'tuple[set, set]':
     """Returns the specifiers that a query looks up, and the resolutions: each a referrer and a specifier in it."""
-    specifiers, resolutions, left = set(), set(), [query.specifier]
+    requested, resolutions, left = set(), set(), [query.specifier]
     while left:
         specifier = left.pop()
-        module = None if specifier in specifiers else graph.get(specifier)
-        specifiers.add(specifier)
-        if module is None:
-            continue
-        if module.types is not None and out != 'types dependencies':
-            left.append(module.types)
-        for text in followed(graph, query, module, out):
+        module = None if specifier in requested else graph.stands_for(specifier)
+        requested.add(specifier)
+        for text in () if module is None else followed(graph, query, module, out):
             resolutions.update([(module.specifier, text)] if out != 'resolutions' else [])
             target = graph.resolve_dependency(text, module.specifier)
             left += [] if target is None else [target]
+    specifiers, left = set(requested), list(requested) if out != 'types dependencies' else []
+    while left:
+        module = graph.get(left.pop())
+        if module is not None and module.types is not None and module.types not in specifiers:
+            specifiers.add(module.types)
+            left.append(module.types)
     return specifiers, resolutions
 
 
@@ -91,10 +94,12 @@ def differences(seeds, out=None) -> Counter:
         for line in rng.sample(case.lines, min(12, len(case.lines))):
             try:
                 query = read_query(line)
-                there = changed(rng, case.value, graph, *seen(graph, query, out), others['modules'])
+                looks_up = seen(graph, query, out)
+                there = changed(rng, case.value, graph, *looks_up, others['modules'])
                 other = check_graph(graph_of_value(there))
             except (BadQuery, GraphFault):
                 continue
+            counts['differ'] += out is None and set(looked_up(Root(graph), query)) != looks_up[0]
             for strict in (False, True):
                 counts['answers'] += 1
                 counts['differ'] += answer_line(Root(graph, strict=strict), line) != answer_line(Root(other, strict=strict), line)

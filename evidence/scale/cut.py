@@ -91,11 +91,13 @@ class Whole:
 
 
 def module_of(line: bytes) -> 'str | None':
-    """Returns the specifier of a query; None for a line that is no query."""
+    """Returns the specifier of a query, or of the query whose inputs are queried; None for a line that is no query."""
     try:
         query = json.loads(line)
     except ValueError:
         return None
+    if isinstance(query, list) and len(query) == 2 and query[0] == 'inputs':
+        query = query[1]
     is_query = isinstance(query, list) and len(query) > 1 and isinstance(query[1], str)
     return query[1] if is_query else None
 

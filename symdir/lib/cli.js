@@ -57,6 +57,7 @@ const OUT = /** @type {const} */ ({ type: 'string', short: 'o' });
  * @property {string[][]} [apart] options that don't go together
  * @property {boolean} [bodies] whether what stands in the bodies of functions is read in any case
  * @property {(run: Run) => Promise<void>} [check] what its words have to be, told before files are read
+ * @property {(options: Record<string, any>) => string | undefined} [result] what of its answer is kept, in a word
  * @property {boolean} [reportsFaults] whether what can't be parsed is told with its answer
  * @property {boolean} [isLookUp] whether its status is by its answer alone, and no other file's fault is a finding
  * @property {(run: Run, folder: import('./folder/folder.js').Folder) => Promise<number>} [ask]
@@ -66,6 +67,9 @@ const OUT = /** @type {const} */ ({ type: 'string', short: 'o' });
 const AMBIENT = ['ambient-exports', 'no-ambient-exports'];
 const APART = [['symq', 'unproved'], AMBIENT];
 const FINDING_APART = [...APART, ...REPORT_APART];
+/** Of commands that stay and answer again. */
+const WATCHED = { ...FINDING, watch: /** @type {const} */ ({ type: 'boolean' }) };
+const WATCHED_APART = [...FINDING_APART, ...['markdown', 'html', 'sarif', 'annotations', 'out', 'save-baseline', 'save', 'check'].map((it) => ['watch', it])];
 /** What can't be combined with a report of names. */
 const SAVED = ['json', 'markdown', 'html', 'sarif', 'annotations', 'out', 'baseline'].map((it) => ['save', it]);
 
@@ -76,13 +80,14 @@ const COMMANDS = {
     apart: [['check', 'out'], AMBIENT],
     act: async (run) => (run.options.check ? (await import('./commands/check.js')).checkGraph(run)
       : (await import('./commands/graph.js')).graph(run, reading(run))) },
-  api: { options: { ...FINDING, html: { type: 'boolean' }, docs: { type: 'boolean' }, save: { type: 'string' }, check: { type: 'string' } }, words: 1,
-    apart: [...FINDING_APART, ['save', 'check'], ['check', 'html'], ...SAVED],
+  api: { options: { ...WATCHED, html: { type: 'boolean' }, docs: { type: 'boolean' }, save: { type: 'string' }, check: { type: 'string' } }, words: 1,
+    apart: [...WATCHED_APART, ['save', 'check'], ['check', 'html'], ...SAVED],
     check: async (run) => (await import('./commands/api.js')).checkSave(run),
+    result: ({ html, save, check, baseline }) => (save || check ? 'surface' : html && !baseline ? 'page' : undefined),
     ask: async (run, folder) => (await import('./commands/api.js')).api(run, folder) },
-  leaks: { options: FINDING, words: 1, apart: FINDING_APART,
+  leaks: { options: WATCHED, words: 1, apart: WATCHED_APART,
     ask: async (run, folder) => (await import('./commands/leaks.js')).leaks(run, folder) },
-  missing: { options: FINDING, words: 1, apart: FINDING_APART, reportsFaults: true,
+  missing: { options: WATCHED, words: 1, apart: WATCHED_APART, reportsFaults: true,
     ask: async (run, folder) => (await import('./commands/missing.js')).missing(run, folder) },
   where: { options: ASKING, words: 3, apart: APART, isLookUp: true,
     check: async (run) => void (await import('./commands/where.js')).spotOf(run.words[1]),
@@ -96,9 +101,12 @@ const COMMANDS = {
     check: async (run) => void (await import('./commands/where.js')).spotOf(run.words[1], 'uses'),
     ask: async (run, folder) => (await import('./commands/uses.js')).uses(run, folder) },
   diff: { options: FINDING, words: 2, apart: FINDING_APART,
-    act: async (run) => (await import('./commands/diff.js')).diff(run, { read: (folder) => reading({ ...run, words: [folder] }), asked: await engineOf(run) }) },
+    act: async (run) => (await import('./commands/diff.js')).diff(run, { read: (folder) => reading({ ...run, words: [folder] }), asked: { ...await engineOf(run), result: 'surface' } }) },
   cycles: { options: FINDING, words: 1, apart: FINDING_APART, bodies: true,
     ask: async (run, folder) => (await import('./commands/cycles.js')).cycles(run, folder) },
+  affected: { options: { ...ASKING, since: { type: 'string' }, check: { type: 'string' } }, words: Infinity, apart: APART,
+    check: async (run) => (await import('./commands/affected.js')).checkChanged(run),
+    ask: async (run, folder) => (await import('./commands/affected.js')).affected(run, folder, (other) => reading({ ...run, words: [other] })) },
 };
 
 /** @param {string} text @returns {RegExp} */
@@ -140,7 +148,7 @@ async function asked(run, command) {
   const how = { ...reading(run), ...(command.bodies && { bodies: true }) };
   await command.check?.(run);
   // what answers has to be there before time is spent on files
-  const begun = await begin(how, await engineOf(run));
+  const begun = await begin(how, { ...await engineOf(run), result: command.result?.(run.options) });
   try {
     return await answered(run, command, begun);
   } finally {
@@ -148,16 +156,21 @@ async function asked(run, command) {
   }
 }
 
+/** @param {Run} run @param {Command} command @param {import('./folder/folder.js').Folder} folder @param {() => void} open has it asked from then on @returns {Promise<number>} the status */
+async function told(run, command, folder, open) {
+  const faults = command.reportsFaults ? [] : run.report.found.rest(faultsOf(folder.sources), (it) => it);
+  faults.forEach((it) => run.warn(it.told));
+  open();
+  const status = await /** @type {NonNullable<Command['ask']>} */ (command.ask)(run, folder);
+  return status === 0 && faults.length > 0 && !command.isLookUp ? 1 : status;
+}
+
 /** @param {Run} run @param {Command} command @param {import('./folder/begin.js').Begun} begun @returns {Promise<number>} */
 async function answered(run, command, begun) {
   const { Folder } = await import('./folder/folder.js');
   const folder = await Folder.read(begun, { entry: run.options.entry ?? [] });
   try {
-    const faults = command.reportsFaults ? [] : run.report.found.rest(faultsOf(folder.sources), (it) => it);
-    faults.forEach((it) => run.warn(it.told));
-    folder.open(/** @type {import('./folder/begin.js').Asked} */ (begun.asked));
-    const status = await /** @type {NonNullable<Command['ask']>} */ (command.ask)(run, folder);
-    return status === 0 && faults.length > 0 && !command.isLookUp ? 1 : status;
+    return await told(run, command, folder, () => folder.open(/** @type {import('./folder/begin.js').Asked} */ (begun.asked)));
   } finally {
     await folder.close();
   }
@@ -223,6 +236,23 @@ async function reported(name, command, words, options, print, warn) {
 }
 
 /**
+ * Stays, and answers again when sources change.
+ * @param {string} name @param {Command} command @param {string[]} words @param {() => Record<string, any>} options as they are whenever it is called
+ * @param {(line: string) => void} print @param {(line: string) => void} warn
+ * @returns {Promise<never>}
+ */
+async function watched(name, command, words, options, print, warn) {
+  const { Watch } = await import('./watch/watch.js');
+  const readingBy = (/** @type {Record<string, any>} */ all) => reading(/** @type {Run} */ ({ words, options: all }));
+  const { folder } = readingBy(options());
+  return new Watch({
+    name, folder, options, print, warn, reading: readingBy, engine: (all) => engineOf(/** @type {Run} */ ({ options: all })),
+    run: (all, report, line, fault) => ({ words, options: all, paint: new Paint(), print: line, warn: fault, report }),
+    answer: (run, open, begin) => told(run, command, open, begin),
+  }).run();
+}
+
+/**
  * Runs the command.
  * @param {string[]} args behind its name
  * @returns {Promise<number>} the status: 0 no findings, 1 findings, 2 usage error, 3 failure
@@ -250,8 +280,9 @@ export async function main(args) {
     }
     const folder = words[name === 'diff' ? 1 : 0];
     const isConfigured = !options['no-config'] && folder !== undefined && isFolder(folder);
-    const all = isConfigured ? configured(name, COMMANDS, path.resolve(folder), options) : options;
-    return await reported(name, command, words, all, print, warn);
+    const all = () => (isConfigured ? configured(name, COMMANDS, path.resolve(folder), options) : options);
+    if (options.watch) return await watched(name, command, words, all, print, warn);
+    return await reported(name, command, words, all(), print, warn);
   } catch (error) {
     const failure = failureOf(error);
     if (failure === null) throw error;

@@ -15,7 +15,7 @@ import { findTypeScript } from './typescript.js';
 /** @typedef {{ folder: string, file: string, text: string, below: string[] }} Source the file, below the folder, and the key of its options */
 
 /** What runs programs or writes files is told on the command line alone: a directory may be anybody's. */
-const COMMAND_LINE = new Set(['help', 'config', 'no-config', 'symq', 'unproved', 'out', 'save', 'save-baseline']);
+const COMMAND_LINE = new Set(['help', 'config', 'no-config', 'symq', 'unproved', 'out', 'save', 'save-baseline', 'watch', 'since']);
 /** These name files below the directory. */
 const FILES = new Set(['baseline', 'check']);
 

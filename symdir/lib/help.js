@@ -32,6 +32,13 @@ const reports = (command, folder) => `  --markdown           prints Markdown for
   symdir ${command} ${folder} --baseline baseline.json --save-baseline
 `;
 
+/** @param {string} example words of a command that stays @returns {string} */
+const watches = (example) => `  --watch              stays, and prints what differs when files change
+
+  symdir ${example} --watch
+
+`;
+
 const STATUSES = 'Exit status: 0 no findings, 1 findings, 2 usage error, 3 failure.';
 
 /** Of commands that look something up. */
@@ -39,6 +46,7 @@ const STATUSES = 'Exit status: 0 no findings, 1 findings, 2 usage error, 3 failu
 const LOOK_UPS = {
   where: STATUSES.replace('0 no findings, 1 findings', '0 definition found, 1 none'),
   uses: STATUSES.replace('0 no findings, 1 findings', '0 reference found, 1 none'),
+  affected: STATUSES.replace('0 no findings, 1 findings', '0 no public name can change (with --check: did), 1 some'),
 };
 
 /** @type {Record<string, string>} what `--json` prints, by command: its keys, those with `?` not always; what is capital stands for another form */
@@ -60,10 +68,18 @@ const FORMS = {
   uses: '[{ name, defined: [PLACE], uses: [{ file, line, column, how, isType }] }]',
   diff: `{ advice, changes: [{ what, entry, name, from, to, advice, reason }] }
   advice: major, minor, patch; of no change null`,
+  affected: `{ files: [file], names: [{ entry, name, kind, defined: [PLACE], unresolved: [END],
+    change? }], lists: [entry], modules: [{ file, exports, definitions }] }
+  change: added, removed; lists: entries that can gain or lose names
+  by: { text, file, line, column }
+  with --check also changes: [{ what, entry, name, from, to, advice, reason }], as \`diff\` has them,
+  and others: how many there are of other names`,
   cycles: `{ cycles: [{ modules: [file], shortest: [STEP], cut: { ..STEP, opens, isSure } }], deferred }
   STEP: { from, to, statements: [{ file, line, column, how, text }] }`,
 };
 
+/** Commands that stay with `--watch`. */
+const WATCHING = new Set(['api', 'leaks', 'missing']);
 const REPORTING = new Set(['api', 'leaks', 'missing', 'unused', 'diff', 'cycles']);
 
 /** @param {string} command @returns {string} */
@@ -73,7 +89,8 @@ function formText(command) {
   const parts = [[/PLACE/, '  PLACE: { kind, file, line, column, by? }'], [/END/, '  END: { what, file, name, why? }; what: external, import, name, unknown, global']];
   const more = parts.filter(([it]) => /** @type {RegExp} */ (it).test(form)).map(([, text]) => `\n${text}`).join('');
   const baseline = REPORTING.has(command) ? '\n  with --baseline also baseline: { accepted, gone: [{ rule, file, name, count }] }' : '';
-  return `\n\nJSON:\n  ${form}${baseline}${more}`;
+  const watched = WATCHING.has(command) ? '\n  with --watch a line each: { answer, faults, status }, then { files, removed, added, faults,\n    status } with what differs in these lists, or { files, failure, status }' : '';
+  return `\n\nJSON:\n  ${form}${baseline}${more}${watched}`;
 }
 
 /** @type {Record<string, string>} */
@@ -86,7 +103,7 @@ const COMMANDS = {
   --check FILE         compares with a snapshot, as \`symdir diff\` does; status 1 if it changed
   --docs               adds signatures as written and doc comments; with --json also members
   --html               prints a page with all of it and the picture of \`web\`, in one file
-
+${watches('api examples/shop/new').trimEnd()}
   symdir api examples/shop/new --docs
   symdir api examples/shop/new --html -o api.html
 
@@ -99,7 +116,7 @@ Return types count if they are written. Private members don't count.
   symdir leaks examples/shop/new --entry cart.ts
 
   --all                lists all references
-${reports('leaks', 'examples/shop/new --entry cart.ts')}
+${watches('leaks examples/shop/new --entry cart.ts')}${reports('leaks', 'examples/shop/new --entry cart.ts')}
 ${ASKING}`,
   missing: `symdir missing DIR: unresolved imports and \`export *\`, imports of missing exports, syntax errors
 
@@ -109,7 +126,7 @@ a re-export. An unresolved \`export *\` is reported alone: which names it gives 
   symdir missing examples/shapes
 
   --all                doesn't truncate lists
-${reports('missing', 'examples/shapes')}
+${watches('missing examples/shapes')}${reports('missing', 'examples/shapes')}
 ${ASKING}`,
   where: `symdir where DIR FILE:LINE[:COLUMN] [NAME]: go to definition, with the modules in between
 
@@ -171,6 +188,21 @@ type-only imports or import() are listed apart, and aren't findings.
   --all                doesn't truncate lists
 ${reports('cycles', 'examples/shop/new')}
 ${ASKING}`,
+  affected: `symdir affected DIR FILE..: public names and answers that a change of the files can touch
+symdir affected DIR --since REV: the same for the files that differ from a Git revision
+
+A name rests on the modules of its paths, an answer on what symq's \`inputs\` say: a change of other
+files can't touch it. A file that is there counts as edited, another one as deleted. With --since
+it is known what each file was, and names whose paths and texts are the same are left out.
+\`exports\`: what a module exports; \`definitions\`: where what it names is defined.
+
+  symdir affected examples/shop/new item.ts
+
+  --since REV          takes the files that differ from the revision, new ones too
+  --check OLD          lists the changes of these names since OLD, as \`diff\` does: a directory, a
+                       snapshot of \`api --save\` or a Git revision
+  --all                doesn't truncate lists
+${ASKING}`,
   graph: `symdir graph DIR [-o graph.json]: the graph that symq reads (default: on standard output)
 symdir graph --check graph.json: why symq refuses a graph: module, node and key
 
@@ -192,6 +224,7 @@ const ALL = `symdir: what a directory of TypeScript or JavaScript exports, and w
   symdir uses DIR FILE:LINE[:COLUMN] [NAME]     find references
   symdir diff OLD NEW                           API changes, and the version that they require
   symdir cycles DIR                             import cycles, and which import to cut
+  symdir affected DIR FILE..                    public names that a change of files can touch
   symdir graph DIR -o graph.json                the graph alone, for symq
 
 DIR/symdir.json, or "symdir" in package.json, sets options, for all commands or for one:

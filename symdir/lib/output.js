@@ -30,6 +30,29 @@ export function placeText({ file, line, column }) {
   return `${file}:${line}:${column}`;
 }
 
+/** In these names each unit counts by itself, and no case differs. */
+const PLAIN = /^[a-z0-9_$]*$/;
+/** Before digits and letters, in this order. */
+const FIRST_SIGNS = '_$';
+
+/** @param {string} a @param {string} b plain ones @returns {number} as `localeCompare` orders them, for which Node would load tables of all languages */
+function plainOrder(a, b) {
+  for (let i = 0; i < a.length && i < b.length; i++) {
+    if (a[i] === b[i]) continue;
+    const [x, y] = [FIRST_SIGNS.indexOf(a[i]), FIRST_SIGNS.indexOf(b[i])];
+    if (x >= 0 && y >= 0) return x - y;
+    if (x >= 0 || y >= 0) return x >= 0 ? -1 : 1;
+    return a[i] < b[i] ? -1 : 1;
+  }
+  return a.length - b.length;
+}
+
+/** @param {{ name: string }} a @param {{ name: string }} b @returns {number} their order for people: capitals count where all else is the same */
+export function byName(a, b) {
+  const [x, y] = [a.name.toLowerCase(), b.name.toLowerCase()];
+  return (PLAIN.test(x) && PLAIN.test(y) ? plainOrder(x, y) : x.localeCompare(y, 'en')) || Number(a.name > b.name) - Number(a.name < b.name);
+}
+
 /** The widest that a column is made. */
 const WIDEST = 44;
 

@@ -12,7 +12,7 @@ function repository() {
 }
 
 /** @param {string} name @returns {string | null} the command on the PATH */
-function onPath(name) {
+export function onPath(name) {
   const folders = (process.env.PATH ?? '').split(path.delimiter).filter((it) => it !== '');
   return folders.map((it) => path.join(it, name)).find((it) => existsSync(it)) ?? null;
 }

@@ -71,7 +71,9 @@ export class Symq extends Asked {
   constructor(program, graph) {
     super();
     this.program = program;
-    this.process = started(program, ['--strict', graph]);
+    this.graph = graph;
+    /** @type {ChildProcess | null} null until it starts: with the first round, or before */
+    this.process = null;
     this.said = '';
     /** @type {string[]} lines that are asked, in order */
     this.open = [];
@@ -79,11 +81,20 @@ export class Symq extends Asked {
     this.waiting = null;
     /** @type {Failure | null} */
     this.failure = null;
-    this.process.stderr.on('data', (it) => (this.said += it));
-    this.process.stdin.on('error', () => {});
-    this.process.on('error', (error) => this.fail(notStarted(program, error)));
-    this.process.on('close', (status, signal) => this.fail(status === USAGE ? notStrict(program) : ended(status ?? signal, this.said)));
-    this.process.stdout.on('data', (it) => this.receive(it));
+  }
+
+  /** @returns {ChildProcess} that runs from then on */
+  start() {
+    if (this.process) return this.process;
+    const { program } = this;
+    const child = started(program, ['--strict', this.graph]);
+    this.process = child;
+    child.stderr.on('data', (it) => (this.said += it));
+    child.stdin.on('error', () => {});
+    child.on('error', (error) => this.fail(notStarted(program, error)));
+    child.on('close', (status, signal) => this.fail(status === USAGE ? notStrict(program) : ended(status ?? signal, this.said)));
+    child.stdout.on('data', (it) => this.receive(it));
+    return child;
   }
 
   /** @param {Failure} failure */
@@ -152,6 +163,7 @@ export class Symq extends Asked {
   /** @param {string[]} lines @returns {Promise<void>} */
   async round(lines) {
     if (this.failure) throw this.failure;
+    const { stdin } = this.start();
     this.open = lines;
     this.taken = 0;
     this.progress(`waiting for symq: ${counted(lines.length, 'query')}`);
@@ -161,10 +173,10 @@ export class Symq extends Asked {
     for (const line of lines) {
       part += `${line}\n`;
       if (part.length < WAITING) continue;
-      if (!this.process.stdin.write(part)) await Promise.race([answered, drained(this.process.stdin)]);
+      if (!stdin.write(part)) await Promise.race([answered, drained(stdin)]);
       part = '';
     }
-    this.process.stdin.write(part);
+    stdin.write(part);
     await answered;
   }
 
@@ -172,6 +184,10 @@ export class Symq extends Asked {
   close() {
     const { process: it } = this;
     return new Promise((resolve) => {
+      if (it === null) {
+        resolve();
+        return;
+      }
       if (it.pid === undefined || it.exitCode !== null || it.signalCode !== null) resolve();
       else it.once('exit', () => resolve());
       it.kill('SIGKILL');

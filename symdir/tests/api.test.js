@@ -199,3 +199,9 @@ test('--save overwrites snapshots and empty files alone', () => {
   for (const name of ['empty.txt', 'api.txt']) assert.equal(save(name).status, 0, name);
   assert.equal(readFileSync(path.join(folder, 'empty.txt'), 'utf8'), readFileSync(path.join(folder, 'api.txt'), 'utf8'));
 });
+
+test('each member of an enum has its own place', () => {
+  const folder = folderOf({ 'index.ts': 'export enum Axis {\n  x,\n  /** Up. */\n  y = 2,\n  "z",\n}\n' });
+  const [{ members }] = answer(['api', folder, '--docs']).names;
+  assert.deepEqual(members.map((/** @type {any} */ it) => `${it.name} ${it.line}:${it.column} ${it.doc}`), ['Axis.x 2:3 ', 'Axis.y 4:3 Up.', 'Axis.z 5:3 ']);
+});

@@ -6,6 +6,8 @@ import path from 'node:path';
 import test from 'node:test';
 import { setTimeout } from 'node:timers/promises';
 
+import { main } from '../lib/cli.js';
+import { help } from '../lib/help.js';
 import { findSymq } from '../lib/program.js';
 import { BIN, answer, folderOf, program, symdir } from './helper.js';
 
@@ -15,13 +17,13 @@ test('help', () => {
   assert.equal(symdir([]).status, 2);
   assert.match(symdir([]).stderr, /^symdir: what a directory of TypeScript/);
   for (const words of [['--help'], ['-h'], ['help']]) assert.match(symdir(words).stdout, /symdir leaks DIR/);
-  for (const it of ['api', 'leaks', 'missing', 'where', 'web', 'graph', 'unused', 'uses', 'diff', 'cycles']) {
+  for (const it of ['api', 'leaks', 'missing', 'where', 'web', 'graph', 'unused', 'uses', 'diff', 'cycles', 'affected']) {
     const { status, stdout } = symdir([it, '--help']);
     assert.equal(status, 0);
     assert.match(stdout, new RegExp(`^symdir ${it} `));
     assert.match(stdout, /--skip REGEX/);
-    const found = it === 'where' ? '0 definition found' : '0 reference found';
-    const first = it === 'where' || it === 'uses' ? `${found}, 1 none` : '0 no findings, 1 findings';
+    const others = { where: '0 definition found, 1 none', uses: '0 reference found, 1 none', affected: '0 no public name can change (with --check: did), 1 some' };
+    const first = /** @type {Record<string, string>} */ (others)[it] ?? '0 no findings, 1 findings';
     assert.ok(stdout.endsWith(`Exit status: ${first}, 2 usage error, 3 failure.\n`));
     assert.ok(stdout.split('\n').every((line) => line.length <= 100));
     // its examples are runs of the command
@@ -46,7 +48,8 @@ test('help names each key that --json prints, and those at the top in their orde
   const baseline = path.join(folderOf({}), 'baseline.json');
   writeFileSync(baseline, '{"findings":[{"rule":"leaks/not-exported","file":"gone.ts","name":"Gone"}]}');
   for (const words of [['api', folder, '--strict'], ['api', folder, '--docs'], ['leaks', folder, '--baseline', baseline], ['api', folder, '--entry', 'b.js'], ['leaks', folder], ['missing', folder, '--strict'], ['where', folder, 'index.ts:5'],
-    ['where', folder, 'index.ts:6', 'x'], ['web', folder], ['unused', folder], ['uses', folder, 'a.ts:3'], ['diff', folder, fresh], ['cycles', folder]]) {
+    ['where', folder, 'index.ts:6', 'x'], ['web', folder], ['unused', folder], ['uses', folder, 'a.ts:3'], ['diff', folder, fresh], ['cycles', folder],
+    ['affected', folder, 'a.ts'], ['affected', folder, 'a.ts', '--check', fresh]]) {
     const out = answer(words);
     const [, form] = symdir([words[0], '--help']).stdout.split('\nJSON:\n');
     const named = new Set(form.match(/\w+/g));
@@ -69,15 +72,16 @@ test('usage errors', () => {
     assert.deepEqual([status, stdout], [2, '']);
     return stderr;
   };
-  assert.equal(said('what'), 'symdir: unknown command what; the commands are graph, api, leaks, missing, where, web, unused, uses, diff, cycles\n');
-  assert.equal(said('help', 'what'), 'symdir: unknown command what; the commands are graph, api, leaks, missing, where, web, unused, uses, diff, cycles\n');
-  assert.equal(said('constructor'), 'symdir: unknown command constructor; the commands are graph, api, leaks, missing, where, web, unused, uses, diff, cycles\n');
+  assert.equal(said('what'), 'symdir: unknown command what; the commands are graph, api, leaks, missing, where, web, unused, uses, diff, cycles, affected\n');
+  assert.equal(said('help', 'what'), 'symdir: unknown command what; the commands are graph, api, leaks, missing, where, web, unused, uses, diff, cycles, affected\n');
+  assert.equal(said('constructor'), 'symdir: unknown command constructor; the commands are graph, api, leaks, missing, where, web, unused, uses, diff, cycles, affected\n');
   assert.equal(said('api', '.', '--save', 'a', '--check', 'b'), 'symdir: --save and --check can\'t be combined\n');
   assert.equal(said('api', '.', '--symq', 'a', '--unproved'), 'symdir: --symq and --unproved can\'t be combined\n');
   assert.equal(said('graph', '.', '--check', 'a'), 'symdir: --check takes a graph and no directory, not .\n');
   assert.equal(said('api'), 'symdir: a directory is required; see `symdir --help`\n');
   assert.equal(said('api', ''), 'symdir: a directory is required; see `symdir --help`\n');
   assert.equal(said('api', 'a', 'b'), 'symdir: api takes one directory, not a b\n');
+  assert.equal(said('where', '.', 'a.ts:1', 'a', 'b'), 'symdir: where takes a directory, FILE:LINE and a name, not . a.ts:1 a b\n');
   assert.equal(said('api', '.', '--none'), 'symdir: Unknown option \'--none\'; see `symdir api --help`\n');
   assert.match(said('api', '.', '--entry'), /^symdir: Option '--entry <value>' argument missing; see `symdir api --help`\n$/);
   assert.match(said('api', '.', '--skip', '('), /^symdir: --skip \(: Invalid regular expression/);
@@ -86,6 +90,66 @@ test('usage errors', () => {
   assert.equal(said('web', folder, '-o', 'x.bmp'), 'symdir: -o x.bmp: expected a file name that ends in .svg, .png, .pdf or .dot\n');
   assert.equal(said('api', folder, '--symq', '/none/symq'), 'symdir: no such program: /none/symq\n');
   assert.equal(said('where', 'src/a.ts:3:14'), 'symdir: the directory comes first, as in `symdir where . src/a.ts:3:14`\n');
+});
+
+/** @param {string[]} words of a usage error @returns {Promise<string>} what the command says of it, in this process */
+async function refused(...words) {
+  const { write } = process.stderr;
+  let said = '';
+  process.stderr.write = (/** @type {any} */ it) => Boolean((said += it));
+  try {
+    assert.equal(await main(words), 2, words.join(' '));
+  } finally {
+    process.stderr.write = write;
+  }
+  return said;
+}
+
+const REPORTED = ['api', 'leaks', 'missing', 'unused', 'diff', 'cycles'];
+const ASKING = ['where', 'web', 'uses', 'affected'];
+/** Options with a value. */
+const VALUED = new Set(['skip', 'entry', 'symq', 'out', 'baseline', 'save', 'check', 'since']);
+const given = (/** @type {string} */ it) => (VALUED.has(it) ? [`--${it}`, 'x'] : [`--${it}`]);
+
+test('each pair of options that can\'t be combined, of each command that has them', async () => {
+  const formats = ['json', 'markdown', 'sarif', 'annotations'];
+  const pairs = (/** @type {string[]} */ list) => list.flatMap((one, i) => list.slice(i + 1).map((other) => [one, other]));
+  const ambient = ['ambient-exports', 'no-ambient-exports'];
+  const shared = [['symq', 'unproved'], ambient];
+  const reports = [...shared, ...pairs(formats), ['annotations', 'out'], ...[...formats, 'out'].map((it) => ['save-baseline', it])];
+  const watched = ['markdown', 'sarif', 'annotations', 'out', 'save-baseline'].map((it) => ['watch', it]);
+  const own = /** @type {Record<string, string[][]>} */ ({
+    leaks: watched, missing: watched,
+    api: [...watched, ...['html', 'save', 'check'].map((it) => ['watch', it]), ...[...formats, 'html', 'out', 'baseline', 'check'].map((it) => ['save', it]), ['check', 'html'], ...formats.map((it) => ['html', it]), ['save-baseline', 'html']], graph: [['check', 'out'], ambient] });
+  for (const command of [...REPORTED, ...ASKING, 'graph']) {
+    const all = [...(own[command] ?? []), ...(REPORTED.includes(command) ? reports : ASKING.includes(command) ? shared : [])];
+    for (const [one, other] of all) {
+      const said = await refused(command, ...given(one), ...given(other));
+      assert.ok([[one, other], [other, one]].some((it) => said === `symdir: ${it.map((name) => `--${name}`).join(' and ')} can't be combined\n`), `${command} ${one} ${other}: ${said}`);
+    }
+  }
+});
+
+test('the options of each command are those that its help lists, and flags are taken back by `no-`', async () => {
+  const listed = new Map([...REPORTED, ...ASKING, 'graph'].map((it) => [it, new Set([...help(it).matchAll(/^ {2}(?:-o, )?--([a-z-]+)/gm)].map(([, name]) => name))]));
+  // these stand in the first lines of the help
+  for (const it of ['check', 'out']) listed.get('graph')?.add(it);
+  const every = [...new Set([...listed.values()].flatMap((it) => [...it]))];
+  assert.deepEqual(every.sort(), ['all', 'annotations', 'baseline', 'bodies', 'check', 'docs', 'entry', 'html', 'js', 'json', 'markdown', 'no-ambient-exports', 'no-cache', 'no-config', 'out', 'packages',
+    'production', 'sarif', 'save', 'save-baseline', 'since', 'skip', 'strict', 'symq', 'unproved', 'verbose', 'watch']);
+  for (const [command, names] of listed) {
+    // where nothing is cut it changes nothing
+    if (command !== 'graph') names.add('all');
+    for (const it of every) {
+      // an option that nothing takes comes last, so that a usage error is told in any case
+      const said = await refused(command, ...given(it), '--none');
+      assert.ok(said.startsWith(`symdir: Unknown option '--${names.has(it) ? 'none' : it}'`), `${command} --${it}: ${said}`);
+      const negated = await refused(command, `--no-${it}`, '--none');
+      const isFlag = names.has(it) && !VALUED.has(it) && !it.startsWith('no-');
+      assert.ok(negated.startsWith(`symdir: Unknown option '--${isFlag ? 'none' : `no-${it}`}'`), `${command} --no-${it}: ${negated}`);
+    }
+  }
+  assert.match(await refused('api', '.', '--no-help'), /^symdir: Unknown option '--no-help'/);
 });
 
 test('what can\'t be done', () => {
@@ -167,6 +231,11 @@ test('the package by itself: what it needs is told', () => {
     3, 'symdir: symq not found: `make symq` builds it, --symq FILE names it, and --unproved makes an unverified build\n']);
   assert.deepEqual(said({ PATH: '/none' }, 'api', folder, '--symq', program({}, 'symq', '')), [
     3, `symdir: TypeScript not found: \`npm install typescript@5\` in ${folder}, or on Debian \`apt-get install node-typescript\` (4.8 to 6)\n`]);
+  // symq of the PATH is taken, and not one of the current directory
+  const onPath = path.dirname(program({}, 'symq', ''));
+  assert.match(String(said({ PATH: `/none:${onPath}` }, 'api', folder)[1]), /^symdir: TypeScript not found: /);
+  const inCurrent = spawnSync(process.execPath, [path.join(alone, 'bin', 'symdir.js'), 'api', folder], { encoding: 'utf8', cwd: onPath, env: { PATH: ':/none' } });
+  assert.match(inCurrent.stderr, /^symdir: symq not found: /);
   const graph = path.join(folderOf({ 'g.json': '{}' }), 'g.json');
   const checked = spawnSync(process.execPath, [path.join(alone, 'bin', 'symdir.js'), 'graph', '--check', graph], { encoding: 'utf8', env: { PATH: '/none' } });
   assert.deepEqual([checked.status, checked.stdout], [0, `${graph}: no error found; symq, which decides, wasn't found: \`make symq\` builds it, --symq FILE names it\n`]);

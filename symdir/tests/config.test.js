@@ -116,7 +116,7 @@ test('what is wrong is refused with its place', () => {
 });
 
 test('a directory can\'t say which programs are run, and which files are written', () => {
-  for (const name of ['symq', 'unproved', 'out', 'save', 'save-baseline', 'help', 'no-config']) {
+  for (const name of ['symq', 'unproved', 'out', 'save', 'save-baseline', 'help', 'config', 'no-config']) {
     const text = `symdir.json:1:2: ${name} can be set on the command line only`;
     for (const config of [{ [name]: true }, { [name]: 'x' }]) assert.throws(() => configured('api', COMMANDS, folderWith(config), {}), { message: text, status: 2 });
   }

@@ -11,6 +11,7 @@ import { TreeNode, numbered } from '../lib/tree/node.js';
 import { inAscii, parserOf, ts } from '../lib/tree/typescript.js';
 import { languageOf } from '../lib/language.js';
 import { findTypeScript } from '../lib/typescript.js';
+import { parsedBy } from './parsing.js';
 
 const PLAIN = { bodies: false, ambient: false };
 
@@ -141,6 +142,13 @@ test('the key of a member is what stands there, in classes, objects, patterns an
   assert.deepEqual([keys('interface A { a: 1; "b c": 1; 1.5: 1; [d]: 1 }'), elements], [['Str b c', 'Num 1.5'], [false, false, false, true]]);
 });
 
+test('who may use a member is told by the word before it, and a parameter with a word is a property too', () => {
+  const text = 'class A { public a; protected b; private c; d; public e() {} protected get f() { return 1; } private set f(x) {} private constructor(public g, protected h, private i, readonly j, k, @l m, ...n) {} }';
+  const found = nodes(text).filter((it) => /^(ClassProp|ClassMethod|Constructor|TsParamProp)$/.test(it.kind)).map((it) => `${it.kind} ${it.accessibility ?? ''}`.trim());
+  assert.deepEqual(found, ['ClassProp public', 'ClassProp protected', 'ClassProp private', 'ClassProp', 'ClassMethod public', 'ClassMethod protected', 'ClassMethod private', 'Constructor private',
+    'TsParamProp public', 'TsParamProp protected', 'TsParamProp private', 'TsParamProp']);
+});
+
 test('a setter without a parameter is a method, and an interface may be the default export', () => {
   assert.deepEqual(nodes('interface A { set b(c: 1); set d(); }').flatMap((/** @type {any} */ it) => it.kind.match(/^Ts.*Signature$/) ?? []), ['TsSetterSignature', 'TsMethodSignature']);
   const [, statement, declaration] = nodes('export default interface A {}');
@@ -248,11 +256,18 @@ test('TypeScript\'s text in ASCII means the same', () => {
   assert.equal(ascii('\ufeffvar a;'), null);
 });
 
-test('of TypeScript the blocks up to the parser are taken, and all of one that has no blocks', () => {
+test('of TypeScript the blocks or the parts up to the parser are taken, and all of one that has neither', () => {
   const parser = 'var ts;\n(function (ts) {\n    (function (IncrementalParser) {\n    })(1);\n})(ts || (ts = {}));\n';
   assert.equal(parserOf(`"use strict";\n${parser}var ts;\n(function (ts) {\n})(ts || (ts = {}));\n`), `"use strict";\n${parser}module.exports = ts;\n`);
   assert.equal(parserOf('var ts = (() => {})();\n'), null);
   assert.equal(parserOf(parser.slice(0, -2)), null);
+  const head = '// by us\nvar ts = {}; ((module) => {\nvar all = {};\nmodule.exports = __toCommonJS(all);\n\n// src/compiler/corePublic.ts\nvar versionMajorMinor = "6.0";\n\n// src/compiler/parser.ts\nvar b;\n';
+  const end = '})({ get exports() { return ts; }, set exports(v) { ts = v; module.exports = v; } })\n';
+  const whole = `${head}\n// src/compiler/binder.ts\nvar c;\n\n// src/compiler/checker.ts\n${end}`;
+  assert.equal(parserOf(whole), `${head}\n${end}`);
+  // without what the one function begins with, what it exports, the parser, and a part behind that
+  for (const it of ['var ts = {}; ((module) => {\n', 'module.exports = __toCommonJS(all);\n', 'var versionMajorMinor = "6.0";\n', '// src/compiler/parser.ts\n']) assert.equal(parserOf(whole.replace(it, '')), null, it);
+  assert.equal(parserOf(`${head}\n${end}`), null);
 });
 
 test('what is taken of TypeScript parses as the whole does', () => {
@@ -273,20 +288,6 @@ test('what is taken of TypeScript parses as the whole does', () => {
   }
   assert.ok(faulty > texts.length);
 });
-
-/** @param {typeof import('typescript')} from @param {string} name @param {string} text @returns {{ nodes: string, said: string[] }} what it makes of the text */
-function parsedBy(from, name, text) {
-  const file = from.createSourceFile(name, text, from.ScriptTarget.Latest, false);
-  /** @type {number[]} */
-  const nodes = [];
-  const walk = (/** @type {import('typescript').Node} */ node) => {
-    nodes.push(node.kind, node.pos, node.end);
-    from.forEachChild(node, walk);
-  };
-  walk(file);
-  const said = /** @type {any} */ (file).parseDiagnostics.map((/** @type {any} */ it) => `${it.start} ${it.length} ${it.code} ${it.messageText}`);
-  return { nodes: nodes.join(' '), said };
-}
 
 test('a text that is nested too deep for the stack leaves nothing behind for the next', () => {
   const how = { ...languageOf('a.ts'), ...PLAIN };

@@ -42,6 +42,15 @@ test('cycles are those of the imports that TypeScript emits, and those of all im
   assert.deepEqual(whole.map((it) => it.modules.join(' ')), ['index.ts lazy.ts', 'k1.ts k2.ts', 'p1.ts p2.ts', 'solo.ts t1.ts t2.ts']);
 });
 
+test('of declaration files no import is there when modules load, and each counts, with what a call of `require` in them names', () => {
+  const folder = folderOf({ 'a.d.ts': 'import { B } from "./b";\nexport interface A { b: B }\n', 'b.d.ts': 'import type { A } from "./a";\nexport interface B { a: A }\n',
+    'c.d.ts': 'export const d = require("./e");\n', 'e.d.ts': 'export * from "./c";\n' });
+  const { cycles, deferred } = answer(['cycles', folder]);
+  assert.deepEqual(cycles, []);
+  assert.deepEqual(deferred.map((/** @type {any} */ it) => it.shortest.map((/** @type {any} */ one) => `${one.from} ${one.statements.map((/** @type {any} */ at) => `${at.line}:${at.column} ${at.how} ${at.text}`)}`)), [
+    ['a.d.ts 1:1 import ./b', 'b.d.ts 1:1 import ./a'], ['c.d.ts 1:26 require ./e', 'e.d.ts 1:1 export * ./c']]);
+});
+
 test('a shortest cycle through types has a link that isn\'t there when modules load, though others are shorter', () => {
   const files = {
     'a.ts': 'import { b } from "./b";\nexport type A = 1;\nexport const a = () => b;\n', 'b.ts': 'import { a } from "./a";\nimport { c } from "./c";\nexport const b = () => [a, c];\n',
@@ -147,6 +156,13 @@ test('of random graphs a cycle is as short as any, and a cut opens as much as an
     const back = girthOf(edges.map((list, i) => (i === 0 ? [edges[0][0]] : list)).map((list, i) => list.filter((to) => i === 0 || to !== -1)));
     assert.ok(through.some((from, i) => marked(from, through[(i + 1) % through.length])) && through.length >= cycle.length && through.length >= back, `${seed}`);
     assert.equal(new Set(through).size, through.length);
+  }
+});
+
+test('where no cut of a large group opens anything not each is tried, and that is told', () => {
+  const complete = (/** @type {number} */ count) => Array.from({ length: count }, (_, i) => Array.from({ length: count }, (_, k) => k).filter((it) => it !== i));
+  for (const [count, isSure] of /** @type {[number, boolean][]} */ ([[20, true], [70, false]])) {
+    assert.deepEqual(bestCut(complete(count), [0, 1]), { from: 0, to: 1, opened: 0, isSure });
   }
 });
 

@@ -5,7 +5,7 @@ import path from 'node:path';
 import test from 'node:test';
 
 import { answer, folderOf, symdir } from './helper.js';
-import { parametersOf } from '../lib/surface/compare.js';
+import { parametersOf } from '../lib/surface/parameters.js';
 import { oneLine } from '../lib/surface/signature.js';
 
 /** @param {string | Record<string, string>} before @param {string | Record<string, string>} now texts of index.ts, or files @returns {string[]} */
@@ -43,7 +43,7 @@ test('names that became types alone, by each word that does so', () => {
 test('members: of classes, interfaces, namespaces and enums, but for what is private', () => {
   assert.deepEqual(diff('export class A { a = 1; static b() {} private c = 1; #d = 1; protected e = 1; }', 'export class A { f = 1; private g = 1; }'),
     ['major removed A#a', 'major removed A#e', 'minor added A#f', 'major removed A.b']);
-  assert.deepEqual(diff('export class A {}', 'export abstract class A { abstract a(): void; }'), ['major added A#a']);
+  assert.deepEqual(diff('export class A {}', 'export abstract class A { abstract a(): void; }'), ['major signature A', 'major added A#a']);
   assert.deepEqual(diff('export interface I { a: 1 }', 'export interface I { b: 1; c?: 1; d(): void; readonly e?: 1 }'),
     ['major removed I#a', 'major added I#b', 'minor added I#c', 'major added I#d', 'minor added I#e']);
   assert.deepEqual(diff('export namespace N { export const a = 1; const b = 1; }', 'export namespace N { const a = 1; export namespace M { export const c = 1 } }'), ['minor added N.M', 'major removed N.a']);
@@ -109,7 +109,41 @@ test('a `<` in a default value compares, and parameters behind it are told from 
   assert.equal(of('(a = 1 < 2)', '(a = 1 < 2, b: number)'), 'major signature f');
   assert.equal(of('(a = 1 < 2)', '(a = 1 < 3)'), 'major signature f');
   assert.equal(of('(a: 1): Map<1, 2>', '(a: 1, b = [1 << 2], { c } = { c: 1 < 2 }, d?: Map<1, 2>): Map<1, 2>'), 'minor signature f');
+  assert.equal(of('(a = 1 < 2): 1', '(a = 1 < 2, b = 3 > 2): 1'), 'minor signature f');
   assert.equal(of('(a = f(1 < 2), b?: 1): 1', '(a = f(1 < 2), b?: 1, c?: Map<1, 2>): 1'), 'minor signature f');
+});
+
+test('words before a class and an enum, its constructor and its heritage, as they are written in all sorts of exports', () => {
+  const before = `export class A {}
+export abstract class B<T> { abstract m(): 1; }
+class C {}
+export { C };
+export default class {}
+export declare class D {}
+export enum E { a }
+export declare const enum F { a }
+export class G extends A {}
+export interface H {}
+export class I {}
+export class J { constructor(a?: 1); constructor(a: 2, b: 3); constructor(...a: any[]) {} }
+export class K { private constructor(a: 1) { } }
+`;
+  const now = `export abstract class A {}
+export class B<T> { m(): 1 { return 1; } }
+abstract /* class */ class C {}
+export { C };
+export default abstract class {}
+export declare abstract class D {}
+export const enum E { a }
+export declare enum F { a }
+export class G {}
+export interface H extends A {}
+export class I { private constructor() {} }
+export class J { protected constructor(a?: 1); protected constructor(a: 2, b: 3); protected constructor(...a: any[]) {} }
+export class K { private constructor(b: 2) {} }
+`;
+  assert.deepEqual(diff(before, now), ['major signature A', 'minor signature B', 'minor signature B#m', 'major signature C', 'major signature D', 'major signature E', 'minor signature F', 'major signature G', 'major signature H',
+    'major added I constructor', 'major signature J constructor', 'major signature default']);
 });
 
 test('a value that can\'t be called or constructed any more, though it is a value still', () => {
@@ -134,8 +168,8 @@ test('overloads that were added or are in another order, and what is an intersec
 
 test('texts of signatures', () => {
   assert.equal(oneLine(' ( a : "//  x" , // y\n b: [ 1, ], /* z */ c = `/* ${1}  */`, ) '), '(a: "//  x", b: [1], c = `/* ${1}  */`)');
-  assert.deepEqual(parametersOf('<T extends { a: (b: 1, c) => 2 }>(a: [1, 2], b: (c: 1, d: 2) => "x,)", e = {f: 1, g}): (h, i) => 1'), {
-    before: '<T extends { a: (b: 1, c) => 2 }>', params: ['a: [1, 2]', 'b: (c: 1, d: 2) => "x,)"', 'e = {f: 1, g}'], behind: ': (h, i) => 1' });
+  const found = parametersOf('<T extends { a: (b: 1, c) => 2 }>(a: [1, 2], b: (c: 1, d: 2) => "x,)", e = {f: 1, g}): (h, i) => 1');
+  assert.deepEqual([found?.before, found?.params.map((it) => it.text), found?.behind], ['<T extends { a: (b: 1, c) => 2 }>', ['a: [1, 2]', 'b: (c: 1, d: 2) => "x,)"', 'e = {f: 1, g}'], ': (h, i) => 1']);
   assert.deepEqual(parametersOf('()'), { before: '', params: [], behind: '' });
   assert.equal(parametersOf(': number'), null);
 });

@@ -1,11 +1,12 @@
 // The examples that `--help` shows are run.
 import assert from 'node:assert/strict';
-import { cpSync, readFileSync } from 'node:fs';
+import { appendFileSync, cpSync, readFileSync } from 'node:fs';
 import path from 'node:path';
 import test from 'node:test';
 import { fileURLToPath } from 'node:url';
 
 import { folderOf, symdir } from './helper.js';
+import { watched } from './watching.js';
 
 const TOP = fileURLToPath(new URL('../../', import.meta.url));
 
@@ -23,7 +24,7 @@ function exampleOf(command) {
 
 test('each command has one', () => {
   const commands = [...symdir(['--help']).stdout.matchAll(/^ {2}symdir (\w+) /gm)].map((it) => it[1]);
-  assert.deepEqual(commands, ['api', 'leaks', 'missing', 'where', 'web', 'unused', 'uses', 'diff', 'cycles', 'graph']);
+  assert.deepEqual(commands, ['api', 'leaks', 'missing', 'where', 'web', 'unused', 'uses', 'diff', 'cycles', 'affected', 'graph']);
   commands.forEach(exampleOf);
 });
 
@@ -80,7 +81,7 @@ for (const command of ['api', 'leaks', 'missing', 'unused', 'diff', 'cycles']) {
     cpSync(path.join(TOP, 'examples'), path.join(folder, 'examples'), { recursive: true });
     const first = exampleOf(command).join(' ');
     const found = [...symdir([command, '--help']).stdout.matchAll(/^ {2}symdir (.* --.*)$/gm)].map(([, words]) => words);
-    const all = found.filter((words) => words !== first).map((words) => words.split(' '));
+    const all = found.filter((words) => words !== first && !words.endsWith(' --watch')).map((words) => words.split(' '));
     const options = all.map((words) => /** @type {string} */ (Object.keys(REPORTS).find((it) => words.includes(it))));
     const wanted = ['--markdown', '--sarif', '--annotations', '--save-baseline'];
     assert.deepEqual(options, command === 'api' ? ['--docs', '--html', ...wanted] : wanted);
@@ -136,3 +137,28 @@ test('cycles', () => shows('cycles', 1, `import cycles: 1
     cut cart.ts:1:1 import "./item": breaks all of it
 5 modules, 8 imports between them: 1 import cycle
 `));
+
+test('affected', () => shows('affected', 1, `1 file changed: item.ts
+index.ts: 1 public name can change
+  Item  interface  item.ts:4:18
+answers on 4 modules can change:
+  cart.ts    definitions
+  index.ts   definitions
+  item.ts    exports, definitions
+  legacy.ts  definitions
+`));
+
+for (const command of ['api', 'leaks', 'missing']) {
+  test(`${command}: the example of --watch`, async () => {
+    const [, words] = /^ {2}symdir (.* --watch)$/m.exec(symdir([command, '--help']).stdout) ?? [];
+    const folder = folderOf({});
+    cpSync(path.join(TOP, 'examples'), path.join(folder, 'examples'), { recursive: true });
+    const plain = words.split(' ').slice(0, -1);
+    const { stdout } = symdir(plain, { cwd: folder });
+    await watched(plain, async (watching) => {
+      for (const line of stdout.trimEnd().split('\n')) assert.equal(await watching.line(), line);
+      appendFileSync(path.join(folder, plain[1], 'index.ts'), 'export * from "./none";\n');
+      assert.match(await watching.line() ?? '', /^index\.ts changed: the answer (differs|is the same)$/);
+    }, { cwd: folder, json: false });
+  });
+}

@@ -1,11 +1,13 @@
 import assert from 'node:assert/strict';
-import { copyFileSync, existsSync, readFileSync, readdirSync, rmSync, symlinkSync, utimesSync, writeFileSync } from 'node:fs';
+import { spawnSync } from 'node:child_process';
+import { appendFileSync, copyFileSync, cpSync, existsSync, readFileSync, readdirSync, rmSync, symlinkSync, utimesSync, writeFileSync } from 'node:fs';
 import path from 'node:path';
 import test from 'node:test';
 
 import { madeOf } from '../lib/folder/kept.js';
 import { findSymq } from '../lib/program.js';
-import { folderOf, program, symdir } from './helper.js';
+import { findTypeScript } from '../lib/typescript.js';
+import { BIN, folderOf, program, symdir } from './helper.js';
 
 test('the graph that is kept is asked where it is still that of the folder, and else another', () => {
   const cache = folderOf({});
@@ -74,7 +76,7 @@ test('a file that can\'t be read any more is told, though its tree is kept', () 
   }
 });
 
-test('what is old goes: files of thirty days, parts of an hour, graphs that others take the place of after a minute', () => {
+test('what is old goes: files of thirty days, parts of an hour, graphs that others take the place of after a minute, with results', () => {
   const env = { XDG_CACHE_HOME: folderOf({}) };
   const folder = folderOf({ 'a.ts': 'export const a = 1;\n' });
   symdir(['api', folder], { env });
@@ -90,11 +92,12 @@ test('what is old goes: files of thirty days, parts of an hour, graphs that othe
   };
   const day = 24 * 3600;
   for (const [name, seconds] of /** @type {[string, number][]} */ ([['old', 30 * day + 1], ['new', 30 * day], ['x.123', 3601], ['y.123', 3600], ['x.1a', 3601],
-    [`${path.basename(base)}.other.graph`, 61], [`${path.basename(base)}.more.graph`, 60], ['elsewhere.other.graph', 61]])) put(name, seconds);
+    [`${path.basename(base)}.other.graph`, 61], [`${path.basename(base)}.more.graph`, 60], ['elsewhere.other.graph', 61],
+    [`${path.basename(base)}.other.page.result`, 61], [`${path.basename(base)}.more.page.result`, 60], ['elsewhere.other.page.result', 61]])) put(name, seconds);
   writeFileSync(path.join(folder, 'a.ts'), 'export const b = 1;\n');
   assert.equal(symdir(['api', folder], { env: { ...env, NODE_OPTIONS: `--require ${still}` } }).status, 0);
   const left = readdirSync(path.dirname(trees)).map((it) => it.replace(path.basename(base), 'own'));
-  assert.deepEqual(left.filter((it) => !/^(own\.[^.]{20,}\.graph|own\.trees|parser.*|symq-.*)$/.test(it)).sort(), ['elsewhere.other.graph', 'new', 'own.more.graph', 'x.1a', 'y.123']);
+  assert.deepEqual(left.filter((it) => !/^(own\.[^.]{20,}\.graph|own\.trees|parser.*|symq-.*)$/.test(it)).sort(), ['elsewhere.other.graph', 'elsewhere.other.page.result', 'new', 'own.more.graph', 'own.more.page.result', 'x.1a', 'y.123']);
 });
 
 test('the cache directory is the user\'s, as each system has it', () => {
@@ -136,6 +139,17 @@ test('what is made of TypeScript is kept by its version and its file: its path, 
   assert.equal(new Set([first, longer, made(a)]).size, 3);
 });
 
+test('trees that another version of what makes them has kept aren\'t taken', () => {
+  const [alone, folder, env] = [folderOf({}), folderOf({ 'a.ts': 'export const a = 1;\n' }), { XDG_CACHE_HOME: folderOf({}) }];
+  for (const it of ['bin', 'lib', 'package.json']) cpSync(path.join(path.dirname(BIN), '..', it), path.join(alone, it), { recursive: true });
+  ['', 'tree/types.js', 'folder/parse.js', 'folder/graph.js'].forEach((it, i) => {
+    if (it) appendFileSync(path.join(alone, 'lib', it), '// one more line\n');
+    const words = [path.join(alone, 'bin', 'symdir.js'), 'graph', folder, '-o', path.join(alone, 'graph.json')];
+    assert.equal(spawnSync(process.execPath, words, { env: { ...process.env, ...env } }).status, 0);
+    assert.equal(keptIn(env.XDG_CACHE_HOME, '.trees').length, i + 1, it);
+  });
+});
+
 test('the parser that is kept is the one that parses', () => {
   const env = { XDG_CACHE_HOME: folderOf({}) };
   const folder = folderOf({ 'index.ts': 'export const n = 1;\n' });
@@ -148,4 +162,23 @@ test('the parser that is kept is the one that parses', () => {
   assert.ok(!existsSync(mark));
   assert.deepEqual(symdir(['api', folder], { env }), first);
   assert.ok(existsSync(mark));
+});
+
+test('where each file has a tree that is kept TypeScript isn\'t loaded, and where one changed it is', () => {
+  const env = { XDG_CACHE_HOME: folderOf({}) };
+  const log = path.join(env.XDG_CACHE_HOME, 'log');
+  const typescript = `require('node:fs').appendFileSync(${JSON.stringify(log)}, 'loaded\\n');\nmodule.exports = require(${JSON.stringify(findTypeScript(process.cwd()).file)});\n`;
+  const folder = folderOf({ 'index.ts': 'export * from "./b";\n', 'b.ts': 'export const n = 1;\n',
+    'node_modules/typescript/package.json': '{ "name": "typescript", "version": "6.99.0" }', 'node_modules/typescript/lib/typescript.js': typescript });
+  const run = (/** @type {string[]} */ ...words) => {
+    const { status, stderr } = symdir(['api', folder, ...words], { env });
+    assert.deepEqual([status, stderr], [0, '']);
+    return existsSync(log) ? readFileSync(log, 'utf8').split('\n').length - 1 : 0;
+  };
+  assert.deepEqual([run(), run()], [1, 1]);
+  writeFileSync(path.join(folder, 'b.ts'), 'export const m = 1;\n');
+  assert.deepEqual([run(), run()], [2, 2]);
+  // what trees are made for is a part of what they are kept by
+  assert.deepEqual([run('--no-ambient-exports'), run('--no-ambient-exports'), run()], [3, 3, 3]);
+  assert.deepEqual([run('--no-cache'), run('--no-cache')], [4, 5]);
 });

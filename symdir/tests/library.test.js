@@ -1,7 +1,7 @@
 // The command as a library.
 import assert from 'node:assert/strict';
 import { spawnSync } from 'node:child_process';
-import { existsSync, readFileSync, readdirSync, writeFileSync } from 'node:fs';
+import { existsSync, readFileSync, readdirSync, symlinkSync, writeFileSync } from 'node:fs';
 import path from 'node:path';
 import test from 'node:test';
 import { pathToFileURL } from 'node:url';
@@ -62,6 +62,22 @@ test('the modules, and what can\'t be parsed', async () => {
   assert.deepEqual([folder.entries, folder.modules], [['index.ts'], ['a.ts', 'b.ts', 'bad.ts', 'c.ts', 'global.d.ts', 'index.ts']]);
   assert.deepEqual(folder.faults.map(({ file, line, column }) => [file, line, column]), [['bad.ts', 1, 14]]);
   await folder.close();
+  const made = folderOf(MADE);
+  // it is there, and a read of it fails for whoever reads
+  symlinkSync('/proc/self/mem', path.join(made, 'mem.ts'));
+  const other = await openFolder(made, { entry: ['index.ts'] });
+  assert.deepEqual(other.faults.map(({ file, line, column, text }) => [file, line, column, /^can't be read \(EIO\)$/.test(text)]), [['mem.ts', 1, 1, true], ['bad.ts', 1, 14, false]]);
+  await other.close();
+});
+
+test('what is under way is told, and nothing where it has ended', async (t) => {
+  /** @type {string[]} */
+  const told = [];
+  const folder = await openFolder(folderOf({ 'a.ts': 'export const a = 1;\n', 'b.ts': 'export const b = 1;\n' }), { cache: false, progress: (text) => void told.push(text) });
+  t.after(() => folder.close());
+  assert.deepEqual(told, ['parsed 0 of 2 files', 'parsed 1 of 2 files', '', 'waiting for symq: 1 query', '']);
+  await folder.where({ file: 'a.ts', line: 1 });
+  assert.deepEqual([told[5], told[told.length - 1]], ['waiting for symq: 1 query', '']);
 });
 
 test('calls at once are answered by one process, which ends when the directory is closed', async () => {
@@ -144,13 +160,14 @@ await b.names().catch((error) => console.log(error.kind));
 });
 
 test('a host that listens to signals decides about them, and temporary files go with its end', () => {
-  const text = `import { openFolder } from 'symdir';
+  const text = `import { readdirSync } from 'node:fs';
+import { openFolder } from 'symdir';
 const folder = await openFolder(process.argv[2], { cache: false });
 let hear;
 const heard = new Promise((resolve) => hear = resolve);
 process.on('SIGINT', hear);
 process.kill(process.pid, 'SIGINT');
-console.log(await heard, (await folder.names()).length);
+console.log(await heard, (await folder.names()).length, readdirSync(process.env.TMPDIR).length);
 process.off('SIGINT', hear);
 process.kill(process.pid, 'SIGINT');
 setTimeout(() => console.log('went on'), 60_000);
@@ -159,7 +176,7 @@ setTimeout(() => console.log('went on'), 60_000);
   const folder = consumer({ 'it.mjs': text });
   const options = { cwd: TOP, encoding: /** @type {const} */ ('utf8'), env: { ...process.env, TMPDIR: temporary } };
   const { signal, stdout, stderr } = spawnSync(process.execPath, [path.join(folder, 'it.mjs'), SHOP], options);
-  assert.deepEqual([signal, stdout, stderr], ['SIGINT', 'SIGINT 3\n', '']);
+  assert.deepEqual([signal, stdout, stderr], ['SIGINT', 'SIGINT 3 1\n', '']);
   assert.deepEqual(readdirSync(temporary), []);
 });
 

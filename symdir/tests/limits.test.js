@@ -3,6 +3,7 @@ import assert from 'node:assert/strict';
 import path from 'node:path';
 import test from 'node:test';
 
+import { docLines } from '../lib/report/described.js';
 import { answer, folderOf, symdir } from './helper.js';
 
 const range = (/** @type {number} */ count) => Array.from({ length: count }, (_, i) => String(i + 1).padStart(2, '0'));
@@ -18,6 +19,7 @@ test('missing: the most frequent first, twenty of each sort', () => {
   const all = linesOf('missing', many, '--all');
   assert.deepEqual([all.length, ...all.slice(-2)], [24, '  import "./m21"   a.ts:21:1', '24 imports in 3 modules: 24 missing']);
   assert.equal(linesOf('missing', files(19)).length, 22);
+  assert.equal(linesOf('missing', folderOf({ 'a.ts': 'import "./x";\nimport "./x";\n' }))[1], '  import "./x"  a.ts:1:1 and 1 more');
 });
 
 test('cycles: the largest first, ten of them', () => {
@@ -78,6 +80,20 @@ test('api: how many places a name has, by names without regard to case', () => {
   const folder = folderOf({ 'index.ts': 'export function b(): 1;\nexport function b(a: 1): 1;\nexport interface C {}\nexport class C {}\nexport namespace C {}\nexport const a = 1, B = 2, c = 3;\n' });
   assert.deepEqual(linesOf('api', folder), ['index.ts: 5 public names, defined in 1 file', '  a  const                      index.ts:6:14', '  B  const                      index.ts:6:21',
     '  b  function                   index.ts:1:17 and 1 more', '  C  interface+class+namespace  index.ts:3:18 and 2 more', '  c  const                      index.ts:6:28']);
+});
+
+test('uses: of a line eighty characters', () => {
+  const line = (/** @type {number} */ length) => 'import { a } from "./a"; // '.padEnd(length - 1, '.') + '!';
+  for (const length of [80, 81]) {
+    const folder = folderOf({ 'a.ts': 'export const a = 1;\n', 'index.ts': `  ${line(length)}\n` });
+    assert.equal(linesOf('uses', folder, 'a.ts:1')[1], `  index.ts:1:12  import  ${line(length).slice(0, 80)}`);
+  }
+});
+
+test('api --docs: lines of up to 92 characters behind six spaces', () => {
+  const lines = (/** @type {number} */ length) => docLines(/** @type {any} */ ({ name: 'a', signature: '', doc: `One ${'x'.repeat(length - 4)}` }));
+  assert.deepEqual(lines(92), [`      One ${'x'.repeat(88)}`]);
+  assert.deepEqual(lines(93), ['      One', `      ${'x'.repeat(89)}`]);
 });
 
 test('a line is where a name begins, and not the next line\'s first name', () => {

@@ -79,6 +79,19 @@ function elementsOf(html) {
   return all;
 }
 
+/** Elements that have no end. */
+const WITHOUT_END = new Set(['meta', 'input', 'br', 'hr']);
+
+/** @param {string} html @returns {string[]} the elements that aren't ended, or the first end of another one */
+function openIn(html) {
+  const open = [];
+  for (const [, end, tag, isEmpty] of html.replace(/<(script|style)\b[^>]*>[^]*?<\/\1>/g, '').matchAll(/<(\/?)([a-z]\w*)\b[^<>]*?(\/?)>/gi)) {
+    if (!end && !isEmpty && !WITHOUT_END.has(tag)) open.push(tag);
+    if (end && open.pop() !== tag) return [`/${tag}`];
+  }
+  return open;
+}
+
 test('the page has the elements and attributes that it is made of alone, whatever names and comments say', () => {
   const { status, stdout, stderr } = symdir(['api', folderOf(FILES), '--html']);
   assert.deepEqual([status, stderr], [1, '']);
@@ -90,6 +103,7 @@ test('the page has the elements and attributes that it is made of alone, whateve
     }
   }
   assert.equal(stdout.match(/<script/g)?.length, 1);
+  assert.deepEqual(openIn(stdout), []);
   const decoded = stdout.replace(/&#(\d+);/g, (_, code) => String.fromCharCode(Number(code)));
   assert.ok(decoded.includes(`<code class="name">${EXPORTED}</code>`));
 });
@@ -205,4 +219,11 @@ test('a row of the page has the kind of its name, whether it is a type alone or 
   const single = symdir(['api', folder, '--entry', 'more.ts', '--html']).stdout;
   assert.doesNotMatch(single, /id="entry"|class="entry"/);
   assert.doesNotMatch(single, /<h2>(\d+ findings?|Public names)<\/h2>/);
+});
+
+test('a click on a box of the page\'s picture leads to the names that its file defines', () => {
+  const { stdout } = symdir(['api', folderOf({ 'index.ts': 'export * from "./sub/a b";\nexport const c = 1;\n', 'sub/a b.ts': 'export const a = 1;\n' }), '--html']);
+  const links = [...stdout.matchAll(/<a href="([^"]*)" data-tip="([^"]*)"/g)].map(([, href, tip]) => `${href} ${tip}`);
+  assert.deepEqual([...new Set(links)].filter((it) => it.startsWith('#file=')).sort(), ['#file=index.ts c', '#file=sub%2Fa+b.ts a']);
+  assert.deepEqual(openIn(stdout), []);
 });

@@ -52,6 +52,18 @@ test('several threads tell of each file what one does', async () => {
 /** Is parsed in a thread of its own for its length. */
 const HUGE = `export const a = 1; //${'.'.repeat(2_000_000)}\n`;
 
+test('a file that the stack of this thread is too small for is parsed in another', async () => {
+  const folder = folderOf({ 'deep.ts': `export const a = ${'['.repeat(3000)}${']'.repeat(3000)};\n`, 'b.ts': 'export const b = 1;\n' });
+  const files = ['deep.ts', 'b.ts'].map((it) => ({ file: path.join(folder, it), specifier: `file:///${it}` }));
+  const pool = new Pool(HOW);
+  assert.equal((await pool.here(queueOf(files), () => {})).length, 1);
+  /** @type {any[]} */
+  const found = [];
+  await pool.parse(files, (file, made, error) => found.push([path.basename(file), made?.fault, error]));
+  await pool.close();
+  assert.deepEqual(found.sort(), [['b.ts', null, null], ['deep.ts', null, null]]);
+});
+
 test('while a huge file is parsed timers go on, and a smaller one beside it is parsed too', async () => {
   const go = path.join(folderOf({}), 'go');
   const folder = folderOf({ 'huge.ts': HUGE, 'small.ts': 'export const a = 1;\n', ...waitingTypeScript(HOW.typescript, go) });

@@ -1,5 +1,6 @@
 // Reports for CI: Markdown, SARIF, workflow commands, and files that they are written to.
 import assert from 'node:assert/strict';
+import { createHash } from 'node:crypto';
 import { readFileSync } from 'node:fs';
 import path from 'node:path';
 import test from 'node:test';
@@ -218,6 +219,9 @@ test('a long table is cut where a comment of GitHub ends, and says so', () => {
   assert.equal(stdout.split('\n').filter((it) => it.startsWith('| `name')).length + Number(rest), COUNT);
   assert.equal(symdir(['api', folder, '--markdown', '--all']).stdout.split('\n').filter((it) => it.startsWith('| `name')).length, COUNT);
   assert.deepEqual(table(['a'], [['b'], ['c']], true, 0), ['| a |', '| --- |', '| b |', '| c |']);
+  // a table of 60,000 characters is whole, line ends between its lines included
+  const lengths = [60_000, 60_001].map((it) => table(['a'], [['b'.repeat(it - '| a |\n| --- |\n|  |'.length)]], false).length);
+  assert.deepEqual(lengths, [3, 4]);
 });
 
 test('--out writes the report, and says how many findings it has', () => {
@@ -262,4 +266,82 @@ test('each rule has a level and a text', () => {
 test('an unresolved name is placed where it is taken of the module that lacks it, and not where others have the name', () => {
   const folder = folderOf({ 'index.ts': 'import { x as y } from "./other";\nimport "./m";\nexport { z, x } from "./m";\nexport { y };\n', 'other.ts': 'export const x = 1;\n', 'm.ts': 'export const z = 1;\n' });
   assert.match(symdir(['api', folder, '--annotations']).stdout, /^::error file=[^,]*index\.ts,line=3,col=13\b[^\n]*\n$/);
+});
+
+/** @param {Record<string, string>} files @param {string[]} words behind which the directory is the current one @returns {string[]} what workflow commands say */
+function told(files, ...words) {
+  return symdir([...words, '--annotations'], { cwd: folderOf(files) }).stdout.split('\n').slice(0, -1);
+}
+
+test('what is missing, in words', () => {
+  const files = { 'index.ts': 'import { a } from "./gone";\nimport "unknown";\n  import { nope } from "./m";\n', 'm.ts': 'export * from "./p";\nexport * from "./q";\n', 'p.ts': 'export const x = 1;\n', 'q.ts': 'export const x = 2;\n', 'bad.ts': 'export const a = ;\n' };
+  assert.deepEqual(told(files, 'missing', '.', '--strict'), [
+    '::error file=bad.ts,line=1,col=18,title=symdir files/syntax::Expression expected.',
+    '::error file=index.ts,line=1,col=1,title=symdir missing/file::import "./gone" resolves to no file',
+    '::error file=index.ts,line=2,col=1,title=symdir missing/package::import "unknown": the package is neither installed nor listed in package.json',
+    '::error file=index.ts,line=3,col=12,title=symdir missing/name::m.ts has no export nope',
+    '::warning file=m.ts,line=2,col=1,title=symdir missing/ambiguous::x is re-exported via export * from several modules: p.ts, q.ts']);
+  assert.deepEqual(told(files, 'api', '.', '--strict', '--entry', 'm.ts').slice(-1), [
+    '::warning file=m.ts,line=1,col=1,title=symdir api/ambiguous::x is re-exported via export * from several modules: p.ts, q.ts']);
+});
+
+test('what is unresolved, leaks or isn\'t used, in words', () => {
+  const index = 'export * from "./gone";\nexport { x } from "./none";\nexport { y as z } from "./m";\n';
+  assert.deepEqual(told({ 'index.ts': index, 'm.ts': 'export {};\n' }, 'api', '.').sort(), [
+    '::error file=index.ts,line=1,col=1,title=symdir api/unresolved::export * from "./gone" resolves to no file',
+    '::error file=index.ts,line=2,col=1,title=symdir api/unresolved::x of index.ts: unresolved: index.ts imports "./none", which resolves to no file',
+    '::error file=index.ts,line=3,col=10,title=symdir api/unresolved::z of index.ts: unresolved: m.ts has no export y']);
+  const needing = (/** @type {string} */ type, /** @type {number} */ count) => Array.from({ length: count }, (_, i) => `${type.toLowerCase()}${i + 1}: ${type}`).join(', ');
+  assert.deepEqual(told({ 'index.ts': `export declare const ${needing('S', 4)}, ${needing('T', 6)};\ntype S = 1;\ninterface T {}\n` }, 'leaks', '.'), [
+    '::warning file=index.ts,line=3,col=11,title=symdir leaks/not-exported::interface T is referenced by t1, t2, t3, t4 and 2 more, and no entry exports it',
+    '::warning file=index.ts,line=2,col=6,title=symdir leaks/not-exported::type S is referenced by s1, s2, s3, s4, and no entry exports it']);
+  const unused = { 'package.json': '{\n"main": "index.ts", "dependencies": { "lost": "1" } }', 'index.ts': 'import "./a";\n', 'a.ts': 'export const a = 1;\nexport class B { c = a }\nexport { gone } from "./none";\n', 'b.ts': '' };
+  assert.deepEqual(told(unused, 'unused', '.'), [
+    '::warning file=b.ts,line=1,col=1,title=symdir unused/file::no root reaches the file',
+    '::warning file=a.ts,line=1,col=14,title=symdir unused/export::const a is exported and not used elsewhere; its own file uses it',
+    '::warning file=a.ts,line=2,col=14,title=symdir unused/export::class B is exported and not used elsewhere',
+    '::warning file=a.ts,line=3,col=10,title=symdir unused/export::gone is exported and not used elsewhere',
+    '::warning file=package.json,line=2,col=39,title=symdir unused/dependency::no module imports the dependency lost']);
+});
+
+test('cycles and changes, in words', () => {
+  const pair = (/** @type {string} */ a, /** @type {string} */ b, more = '') => ({ [`${a}.ts`]: `import "./${b}";\n`, [`${b}.ts`]: `import "./${a}";\n${more}` });
+  assert.deepEqual(told({ ...pair('a', 'b'), ...pair('c', 'd', 'import "./e";\n'), 'e.ts': 'import "./d";\n' }, 'cycles', '.'), [
+    '::warning file=c.ts,line=1,col=1,title=symdir cycles/cycle::3 modules import each other (c.ts > d.ts > c.ts); without this import 1 module is in no cycle: import "./d"',
+    '::warning file=a.ts,line=1,col=1,title=symdir cycles/cycle::2 modules import each other (a.ts > b.ts > a.ts); without this import there is no cycle: import "./b"']);
+  const old = folderOf({ 'index.ts': 'export const gone = 1, a = 1;\nexport let b: 1;\nexport function f(a: 1): 1;\n' });
+  const now = { 'index.ts': 'export const came = 1, a: 1 = 1;\nexport let b = 1;\nexport function f(b: 1): 1;\n' };
+  assert.deepEqual(told(now, 'diff', old, '.'), [
+    '::notice file=index.ts,line=1,col=24,title=symdir diff/patch::a: signature: inferred -> : 1 (patch: its type is written out, and was inferred, which isn\'t compared)',
+    '::notice file=index.ts,line=2,col=12,title=symdir diff/patch::b: signature: : 1 -> inferred (patch: its type is no more written out, but inferred, which isn\'t compared)',
+    '::notice file=index.ts,line=1,col=14,title=symdir diff/minor::came: added: const index.ts (minor: existing uses still work)',
+    '::notice file=index.ts,line=3,col=17,title=symdir diff/patch::f: signature: (a: 1): 1 -> (b: 1): 1 (patch: parameters were renamed)',
+    '::error file=index.ts,line=1,col=1,title=symdir diff/major::gone: removed: const index.ts (major: existing uses break)']);
+  assert.equal(symdir(['diff', old, folderOf(now), '--markdown']).stdout, `**major: 1 removed, 1 added, 3 changed**
+
+| version | name | change | reason |
+| --- | --- | --- | --- |
+| major | \`gone\` | removed: \`const index.ts\` | existing uses break |
+| minor | \`came\` | added: \`const index.ts\` | existing uses still work |
+| patch | \`a\` | signature: inferred → \`: 1\` | its type is written out, and was inferred, which isn't compared |
+| patch | \`b\` | signature: \`: 1\` → inferred | its type is no more written out, but inferred, which isn't compared |
+| patch | \`f\` | signature: \`(a: 1): 1\` → \`(b: 1): 1\` | parameters were renamed |
+`);
+});
+
+test('a log of SARIF, whole', () => {
+  const folder = folderOf({ 'a b.ts': 'import "./gone";\nimport "./gone";\n', 'accepted.json': '{"findings":[{"rule":"missing/name","file":"x.ts","name":"y"}]}' });
+  const { version } = JSON.parse(readFileSync(new URL('../package.json', import.meta.url), 'utf8'));
+  const { runs, ...log } = JSON.parse(symdir(['missing', '.', '--sarif', '--baseline', 'accepted.json'], { cwd: folder }).stdout);
+  assert.deepEqual(log, { $schema: 'https://docs.oasis-open.org/sarif/sarif/v2.1.0/errata01/os/schemas/sarif-schema-2.1.0.json', version: '2.1.0' });
+  const result = (/** @type {number} */ line, /** @type {number} */ count) => ({
+    ruleId: 'missing/file', ruleIndex: 0, level: 'error', message: { text: 'import "./gone" resolves to no file' },
+    locations: [{ physicalLocation: { artifactLocation: { uri: 'a%20b.ts' }, region: { startLine: line, startColumn: 1 } } }],
+    partialFingerprints: { 'symdir/v1': createHash('sha256').update(`["missing/file","a b.ts","./gone"] ${count}`).digest('hex') } });
+  assert.deepEqual(runs, [{
+    tool: { driver: { name: 'symdir', version, rules: [{ id: 'missing/file', shortDescription: { text: 'An import or re-export resolves to no file' }, defaultConfiguration: { level: 'error' } }] } },
+    columnKind: 'utf16CodeUnits',
+    invocations: [{ executionSuccessful: true, exitCode: 1, toolExecutionNotifications: [{ level: 'note', message: {
+      text: 'accepted.json: 0 findings accepted, 1 no longer occurs (--save-baseline updates it):\n  missing/name  x.ts  y' } }] }],
+    results: [result(1, 0), result(2, 1)] }]);
 });

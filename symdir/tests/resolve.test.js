@@ -7,6 +7,7 @@ import { Configs } from '../lib/folder/configs.js';
 import { Files } from '../lib/folder/files.js';
 import { Resolver } from '../lib/folder/resolve.js';
 import { folderOf } from './helper.js';
+import { ts } from './language.js';
 
 /**
  * @param {string[] | Record<string, string>} files paths, or paths with texts
@@ -47,6 +48,11 @@ test('relative texts: JavaScript stands for the source that it is made from', ()
   assert.equal(resolved(['a.js', 'b.js', 'b.ts'], 'a.js', './b'), 'b.js');
 });
 
+test('relative texts: a colon in the name of a file begins no scheme', () => {
+  assert.equal(resolved(['a.ts', 'b:c.ts'], 'a.ts', './b:c'), 'b:c.ts');
+  assert.equal(resolved(['a.ts', 'b:c.ts'], 'a.ts', 'b:c'), 'b:c');
+});
+
 test('relative texts: folders', () => {
   assert.equal(resolved(['a.ts', 'b/index.ts'], 'a.ts', './b'), 'b/index.ts');
   assert.equal(resolved(['a.ts', 'b/index.ts'], 'a.ts', './b/'), 'b/index.ts');
@@ -57,12 +63,33 @@ test('relative texts: folders', () => {
   assert.equal(resolved({ 'a.ts': '', 'b/package.json': JSON_OF({ types: 'lib/x.d.ts' }), 'b/lib/x.d.ts': '' }, 'a.ts', './b'), 'b/lib/x.d.ts');
 });
 
+test('relative texts: a directory, by its package.json before its index, and without exports', () => {
+  const files = { 'a.ts': '', 'b/index.ts': '', 'b/x.d.ts': '', 'b/y/z.ts': '', 'b/package.json': JSON_OF({ types: 'x.d.ts' }), 'b/y/index.ts': '' };
+  for (const text of ['./b', './b/', './b/y/..', './b/y/../']) assert.equal(resolved(files, 'a.ts', text), 'b/x.d.ts', text);
+  for (const text of ['.', './', './.']) assert.equal(resolved(files, 'b/index.ts', text), 'b/x.d.ts', text);
+  assert.equal(resolved({ ...files, 'b.ts': '' }, 'a.ts', './b'), 'b.ts');
+  for (const text of ['./b/', './b/y/..']) assert.equal(resolved({ ...files, 'b.ts': '' }, 'a.ts', text), 'b/x.d.ts', text);
+  for (const text of ['..', '../', '../y/..']) assert.equal(resolved({ ...files, 'b.ts': '' }, 'b/y/z.ts', text), 'b/x.d.ts', text);
+  for (const json of [{}, { types: 'none' }, { exports: './x.d.ts' }, { exports: { '.': { types: './x.d.ts' } } }]) {
+    assert.equal(resolved({ ...files, 'b/package.json': JSON_OF(json) }, 'a.ts', './b'), 'b/index.ts');
+  }
+  assert.equal(resolved({ 'a.ts': '', 'b/x.d.ts': '', 'b/package.json': JSON_OF({ exports: './x.d.ts' }) }, 'a.ts', './b'), null);
+  // a module of JavaScript takes the JavaScript of the package
+  const both = { 'a.ts': '', 'a.js': '', 'b/package.json': JSON_OF({ main: 'm' }), 'b/m.js': '', 'b/m.ts': '' };
+  assert.deepEqual(['a.ts', 'a.js'].map((it) => resolved(both, it, './b')), ['b/m.ts', 'b/m.js']);
+});
+
 test('schemes and modules of Node aren\'t files', () => {
   for (const it of ['https://x.org/a.ts', 'http://x.org/a.ts', 'jsr:@std/fs', 'npm:lodash@4', 'node:fs', 'data:text/javascript,1']) {
     assert.equal(resolved(['a.ts'], 'a.ts', it), it);
   }
   assert.equal(resolved(['a.ts'], 'a.ts', 'fs'), 'node:fs');
   assert.equal(resolved(['a.ts'], 'a.ts', 'fs/promises'), 'node:fs/promises');
+  for (const it of ['x:a', 'X-1.b+c:a']) assert.equal(resolved(['a.ts'], 'a.ts', it), it);
+  for (const it of ['1x:a', 'a/b:c', '-x:a']) assert.equal(resolved(['a.ts'], 'a.ts', it), null, it);
+  // what tsconfig.json or a package of the directory says goes before a module of Node, and after a scheme
+  const paths = { 'a.ts': '', 'b.ts': '', 'tsconfig.json': JSON_OF({ compilerOptions: { paths: { fs: ['./b'], 'x:a': ['./b'] } } }) };
+  assert.deepEqual(['fs', 'x:a', 'path'].map((it) => resolved(paths, 'a.ts', it)), ['b.ts', 'x:a', 'node:path']);
 });
 
 const installed = (/** @type {any} */ json, /** @type {string[]} */ ...files) => ({
@@ -93,6 +120,35 @@ test('packages: exports, by conditions in their order', () => {
   assert.equal(at({ './f/*.js': './lib/*.d.ts' }, 'p/f/x.js', 'lib/x.d.ts'), 'node_modules/p/lib/x.d.ts');
 });
 
+test('patterns: the whole text first, else the longest beginning, and no overlap of both ends', () => {
+  const at = (/** @type {any} */ exports, /** @type {string} */ text, /** @type {string[]} */ ...files) => resolved(installed({ exports }, ...files), 'src/a.ts', text);
+  for (const table of [{ './x': './one.js', './*': './two.js' }, { './*': './two.js', './x': './one.js' }]) assert.equal(at(table, 'p/x', 'one.js', 'two.js'), 'node_modules/p/one.js');
+  for (const table of [{ './x*': './one.js', './xy*': './two.js' }, { './xy*': './two.js', './x*': './one.js' }]) assert.equal(at(table, 'p/xyz', 'one.js', 'two.js'), 'node_modules/p/two.js');
+  // of two with one beginning the first
+  assert.equal(at({ './x*z': './one.js', './x*': './two.js' }, 'p/xyz', 'one.js', 'two.js'), 'node_modules/p/one.js');
+  assert.equal(at({ './ab*ba': './one.js', './*': './two.js' }, 'p/aba', 'one.js', 'two.js'), 'node_modules/p/two.js');
+  assert.equal(at({ './ab*ba': './one.js', './*': './two.js' }, 'p/abba', 'one.js', 'two.js'), 'node_modules/p/one.js');
+  assert.equal(at({ './ab*ba': './one.js', './*': './two.js' }, 'p/xbba', 'one.js', 'two.js'), 'node_modules/p/two.js');
+  // null hides a path, and of nested conditions the first that counts is taken
+  assert.equal(at({ '.': './one.js', './x': null, './*': './two.js' }, 'p/x', 'two.js'), 'npm:p/x');
+  assert.equal(at({ '.': [{ browser: './two.js' }, { node: { import: './one.js' } }] }, 'p', 'one.js', 'two.js'), 'node_modules/p/one.js');
+  // each star of the target, and what stands for it as it is
+  assert.equal(at({ './*': './lib/*/*.js' }, 'p/$&', 'lib/$&/$&.js'), 'node_modules/p/lib/$&/$&.js');
+});
+
+test('packages: a target that isn\'t built is what it would be built from', () => {
+  const at = (/** @type {string} */ target, /** @type {string[]} */ ...files) => resolved({ 'a.ts': '', 'package.json': JSON_OF({ name: 'own', exports: { '.': target } }), ...Object.fromEntries(files.map((it) => [it, ''])) }, 'a.ts', 'own');
+  assert.equal(at('./dist/x.js', 'src/x.ts', 'x.ts', 'dist/x.js'), 'dist/x.js');
+  assert.equal(at('./dist/x.js', 'src/x.ts', 'x.ts'), 'src/x.ts');
+  assert.equal(at('dist/x.js', 'x.ts'), 'x.ts');
+  assert.equal(at('./dist/deep/x.d.ts', 'src/deep/x.ts'), 'src/deep/x.ts');
+  assert.equal(at('./dist/x.d.mts', 'src/x.mts'), 'src/x.mts');
+  assert.equal(at('./dist/x.d.cts', 'src/x.cts'), 'src/x.cts');
+  // neither a file at the top, nor one elsewhere, has one
+  assert.equal(at('./x.js', 'src/x.ts'), null);
+  assert.equal(at('../dist/x.js', 'src/x.ts', 'dist/src/x.ts'), null);
+});
+
 test('packages: names with a scope, paths in them, @types, node_modules above', () => {
   assert.equal(resolved({ 'a.ts': '', 'node_modules/@s/p/package.json': '{}', 'node_modules/@s/p/x.d.ts': '' }, 'a.ts', '@s/p/x'), 'node_modules/@s/p/x.d.ts');
   assert.equal(resolved(['a.ts', 'node_modules/@types/p/index.d.ts'], 'a.ts', 'p'), 'node_modules/@types/p/index.d.ts');
@@ -106,6 +162,35 @@ test('packages: the types of a package itself go before those of @types, and wha
   assert.equal(resolved(both, 'a.ts', 'p'), 'node_modules/p/index.d.ts');
   assert.equal(resolved([...both, 'x/a.ts', 'x/node_modules/@types/p/index.d.ts'], 'x/a.ts', 'p'), 'x/node_modules/@types/p/index.d.ts');
   assert.equal(resolved(['a.ts', 'node_modules/@types/p/x.d.ts'], 'a.ts', 'p/x'), 'node_modules/@types/p/x.d.ts');
+});
+
+/** @param {string[] | Record<string, string>} all @param {string} from @param {string} text @returns {string | null} what TypeScript resolves the text to, below the folder */
+function byTypeScript(all, from, text) {
+  const files = Array.isArray(all) ? Object.fromEntries(all.map((it) => [it, ''])) : all;
+  const folder = folderOf(files);
+  const { Bundler = ts.ModuleResolutionKind.NodeJs } = /** @type {any} */ (ts.ModuleResolutionKind);
+  const options = { allowJs: true, module: ts.ModuleKind.ESNext, moduleResolution: Bundler };
+  const { resolvedModule: found } = ts.resolveModuleName(text, path.join(folder, from), options, ts.sys);
+  return found ? path.relative(folder, found.resolvedFileName) : null;
+}
+
+test('packages: @types, or types above, go before JavaScript of a package without types, as TypeScript resolves it', () => {
+  const types = ['node_modules/@types/p/index.d.ts', 'node_modules/@types/p/x.d.ts', 'node_modules/@types/s__p/index.d.ts'];
+  const script = { 'x/a.ts': '', ...Object.fromEntries(types.map((it) => [it, ''])) };
+  /** @type {{ files: Record<string, string>, texts: string[] }[]} */
+  const rows = [
+    { files: { ...script, 'node_modules/p/index.js': '', 'node_modules/p/x.js': '', 'node_modules/@s/p/index.js': '' }, texts: ['p', 'p/x', '@s/p'] },
+    { files: { ...script, 'node_modules/p/package.json': JSON_OF({ main: 'lib/m.js' }), 'node_modules/p/lib/m.js': '' }, texts: ['p'] },
+    { files: { ...script, 'node_modules/p/package.json': JSON_OF({ main: 'lib/m.js' }), 'node_modules/p/lib/m.js': '', 'node_modules/p/lib/m.d.ts': '' }, texts: ['p'] },
+    { files: { ...script, 'x/node_modules/p/index.js': '' }, texts: ['p'] },
+    { files: { ...script, 'x/node_modules/p/index.js': '', 'node_modules/p/index.d.ts': '' }, texts: ['p'] },
+    { files: { 'x/a.ts': '', 'x/node_modules/p/index.js': '', 'node_modules/p/index.js': '' }, texts: ['p'] },
+    { files: { ...script, 'node_modules/q/index.js': '' }, texts: ['q'] },
+    { files: { ...script, 'node_modules/p/package.json': JSON_OF({ main: 'm.js', exports: { '.': './m.js', './x': './x.js' } }), 'node_modules/p/m.js': '', 'node_modules/p/x.js': '' }, texts: ['p', 'p/x'] },
+  ];
+  for (const { files, texts } of rows) for (const it of texts) assert.equal(resolved(files, 'x/a.ts', it), byTypeScript(files, 'x/a.ts', it), `${it}: ${Object.keys(files)}`);
+  // a module of JavaScript is given what it runs
+  assert.equal(resolved({ 'a.js': '', 'node_modules/p/index.js': '', 'node_modules/@types/p/index.d.ts': '' }, 'a.js', 'p'), 'node_modules/p/index.js');
 });
 
 test('packages: those of the folder, by their names', () => {
@@ -150,6 +235,79 @@ test('tsconfig: comments, what it extends, the nearest one, jsconfig', () => {
   assert.equal(resolved({ ...target, 'tsconfig.json': JSON_OF({ extends: '@s/conf' }), 'node_modules/@s/conf/tsconfig.json': JSON_OF({ compilerOptions: { baseUrl: '../../../src' } }) }, 'src/a.ts', 'b'), 'src/b.ts');
   assert.equal(resolved({ ...target, 'tsconfig.json': JSON_OF({ compilerOptions: { baseUrl: 'none' } }), 'src/tsconfig.json': JSON_OF({ compilerOptions: { baseUrl: '.' } }) }, 'src/a.ts', 'b'), 'src/b.ts');
   assert.equal(resolved({ ...target, 'jsconfig.json': JSON_OF({ compilerOptions: { baseUrl: 'src' } }) }, 'src/a.ts', 'b'), 'src/b.ts');
+});
+
+test('tsconfig: what it extends, by each ending, in node_modules above, of several the last, and its own words first', () => {
+  const files = { 'x/a.ts': '', 'x/b.ts': '', 'y/b.ts': '', 'z/b.ts': '' };
+  const at = (/** @type {Record<string, unknown>} */ configs, text = 'b') => resolved({ ...files, ...Object.fromEntries(Object.entries(configs).map(([name, it]) => [name, JSON_OF(it)])) }, 'x/a.ts', text);
+  const options = (/** @type {any} */ compilerOptions, /** @type {any} */ above = undefined) => ({ extends: above, compilerOptions });
+  const y = options({ baseUrl: '.' });
+  for (const it of ['../y/base', '../y/base.json', '..//y/base']) assert.equal(at({ 'x/tsconfig.json': { extends: it }, 'y/base.json': y }), 'y/b.ts', it);
+  assert.equal(at({ 'x/tsconfig.json': { extends: '../y' }, 'y/tsconfig.json': y }), 'y/b.ts');
+  // a name without a dot is a package's, which may stand above
+  const packed = options({ baseUrl: '../../y' });
+  for (const it of ['p', 'p/tsconfig.json', 'p/tsconfig']) assert.equal(at({ 'x/tsconfig.json': { extends: it }, 'node_modules/p/tsconfig.json': packed }), 'y/b.ts', it);
+  assert.equal(at({ 'x/tsconfig.json': { extends: 'p' }, 'x/p.json': y, 'x/p/tsconfig.json': y }), null);
+  assert.equal(at({ 'x/tsconfig.json': { extends: 'p' }, 'x/node_modules/p/tsconfig.json': options({ baseUrl: '../../../z' }), 'node_modules/p/tsconfig.json': packed }), 'z/b.ts');
+  // paths start where they are written, unless there is a baseUrl
+  const paths = options({ paths: { b: ['./b'] } });
+  assert.equal(at({ 'x/tsconfig.json': { extends: '../y/base.json' }, 'y/base.json': paths }), 'y/b.ts');
+  assert.equal(at({ 'x/tsconfig.json': options({ paths: { c: ['./b'] } }, '../y/base.json'), 'y/base.json': y }, 'c'), 'y/b.ts');
+  assert.equal(at({ 'x/tsconfig.json': options({ paths: { b: ['./b'] }, baseUrl: '../z' }, '../y/base.json'), 'y/base.json': y }), 'z/b.ts');
+  assert.equal(at({ 'x/tsconfig.json': options({ paths: { b: ['./none'] } }, '../y/base.json'), 'y/base.json': paths }), null);
+  // of several the last one's words count, and each counts for what the later ones don't say
+  const several = (/** @type {string[]} */ ...above) => at({ 'x/tsconfig.json': { extends: above.map((it) => `../${it}/base.json`) }, 'y/base.json': y, 'z/base.json': options({ baseUrl: '.' }), 'w/base.json': options({ strict: true }) });
+  assert.deepEqual([several('y', 'z'), several('z', 'y'), several('y', 'w')], ['z/b.ts', 'y/b.ts', 'y/b.ts']);
+  // a ring ends
+  assert.equal(at({ 'x/tsconfig.json': { extends: '../y/base.json' }, 'y/base.json': options({ baseUrl: '.' }, '../x/tsconfig.json') }), 'y/b.ts');
+  // tsconfig.json goes before jsconfig.json
+  assert.equal(at({ 'x/tsconfig.json': options({ baseUrl: '../z' }), 'x/jsconfig.json': options({ baseUrl: '../y' }) }), 'z/b.ts');
+});
+
+test('tsconfig: a pattern\'s targets in their order, then baseUrl', () => {
+  const at = (/** @type {any} */ paths, /** @type {string} */ text) => resolved({ 'a.ts': '', 'x/b.ts': '', 'y/b.ts': '', 'y/$&.ts': '', 'tsconfig.json': JSON_OF({ compilerOptions: { baseUrl: './x', paths } }) }, 'a.ts', text);
+  assert.equal(at({ '*': ['../y/*', '*'] }, 'b'), 'y/b.ts');
+  assert.equal(at({ '*': ['./none/*'] }, 'b'), 'x/b.ts');
+  assert.equal(at({ '@*': ['../y/*'] }, '@$&'), 'y/$&.ts');
+  assert.equal(at({ c: '../y/b' }, 'c'), 'y/b.ts');
+});
+
+test('which texts mean a file, by their form or by configuration files', () => {
+  const config = JSON_OF({ compilerOptions: { paths: { '*': ['./x/*'], '@/*': ['./x/*'], own: ['./x/own'] } } });
+  const set = new Files(folderOf({ 'a.ts': '', 'tsconfig.json': config, 'deno.json': JSON_OF({ imports: { mapped: './x/m.ts', far: 'npm:far' } }) }), []);
+  const resolver = new Resolver(set, new Configs(set));
+  const means = (/** @type {string} */ it) => resolver.meansFile(`${set.folder}/a.ts`, it);
+  assert.deepEqual(['./b', '../b', '/b', '.', '..', '#b', 'file:///b', '@/b', 'own', 'mapped'].filter((it) => !means(it)), []);
+  assert.deepEqual(['b', '@b/c', 'own/b', '...', '.b', 'far', 'node:fs', 'x/../b', 'xfile:b'].filter(means), []);
+});
+
+test('Deno: the first of its files, the nearest scope, and what a target may be', () => {
+  const files = { 'x/y/a.ts': '', 'b.ts': '', 'x/b.ts': '', 'node_modules/p/index.ts': '', 'node_modules/p/c.ts': '' };
+  const at = (/** @type {Record<string, any>} */ configs, text = 'b', from = 'x/y/a.ts') => resolved({ ...files, ...Object.fromEntries(Object.entries(configs).map(([name, it]) => [name, JSON_OF(it)])) }, from, text);
+  const [one, other] = ['./b.ts', './x/b.ts'].map((it) => ({ imports: { b: it } }));
+  const names = ['deno.json', 'deno.jsonc', 'import_map.json', 'importmap.json'];
+  names.forEach((it, i) => assert.equal(at({ [it]: one, ...Object.fromEntries(names.slice(i + 1).map((more) => [more, other])) }), 'b.ts', it));
+  assert.equal(at({ 'deno.json': other, 'x/importmap.json': { imports: { b: './b.ts' } } }), 'x/b.ts');
+  assert.equal(at({ 'deno.json': { imports: one.imports, importMap: 'x/map.json' }, 'x/map.json': { imports: { b: './b.ts' } } }), 'x/b.ts');
+  assert.equal(at({ 'deno.json': { imports: one.imports, importMap: 'none.json' } }), null);
+  // the scope that is nearest goes first, then those around it, then the imports of all
+  const scopes = { './': { c: './b.ts' }, './x/': { b: './b.ts', c: './x/b.ts', d: './x/b.ts' }, './x/y/': { b: './x/b.ts' }, './z/': { b: './none.ts' } };
+  for (const order of [Object.entries(scopes), Object.entries(scopes).reverse()]) {
+    const map = { 'deno.json': { imports: { b: './b.ts', e: './b.ts' }, scopes: Object.fromEntries(order) } };
+    assert.deepEqual(['b', 'c', 'd', 'e'].map((it) => at(map, it)), ['x/b.ts', 'x/b.ts', 'x/b.ts', 'b.ts']);
+    assert.deepEqual(['b', 'c', 'd'].map((it) => at(map, it, 'b.ts')), ['b.ts', 'b.ts', null]);
+  }
+  // a scope with a slash is a directory, and one without it a module
+  const alike = { 'deno.json': { imports: { b: './none.ts' }, scopes: { './x/': { b: './b.ts' }, './z/a.t': { b: './b.ts' }, './w': { b: './b.ts' } } }, 'xy/a.ts': {}, 'z/a.ts': {}, 'w/a.ts': {} };
+  assert.deepEqual(['x/y/a.ts', 'xy/a.ts', 'z/a.ts', 'w/a.ts'].map((it) => at(alike, 'b', it)), ['b.ts', null, null, null]);
+  // modules of one directory may be in scopes of their own
+  const set = new Files(folderOf({ 'a.ts': '', 'b.ts': '', 'c.ts': '', 'deno.json': JSON_OF({ scopes: { './a.ts': { m: './b.ts' }, './c.ts': { m: './a.ts' } } }) }), []);
+  const resolver = new Resolver(set, new Configs(set));
+  assert.deepEqual(['a', 'b', 'c'].map((it) => resolver.resolve(`${set.folder}/${it}.ts`, 'm')?.file?.slice(set.folder.length)), ['/b.ts', undefined, '/a.ts']);
+  // a target is a path, a URL or a package, and a directory keeps its slash
+  const imports = { p2: 'p', 'p2/': 'p/', 'dir/': './x/', whole: './x/', '/abs': './b.ts', 'dir': './none' };
+  assert.deepEqual(['p2', 'p2/c', 'dir/b.ts', '/abs', 'whole', 'dir'].map((it) => at({ 'deno.json': { imports } }, it)), ['node_modules/p/index.ts', 'node_modules/p/c.ts', 'x/b.ts', 'b.ts', null, null]);
+  assert.equal(at({ 'deno.json': { imports: { whole: './x/' } }, 'x/index.ts': {}, 'x.ts': {} }, 'whole'), 'x/index.ts');
 });
 
 test('Deno: imports, import maps, scopes', () => {

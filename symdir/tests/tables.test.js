@@ -12,7 +12,7 @@ import { Files } from '../lib/folder/files.js';
 import { Folder } from '../lib/folder/folder.js';
 import { Resolver } from '../lib/folder/resolve.js';
 import { isCode, isJavaScript, languageOf } from '../lib/language.js';
-import { Paint, columns, counted, wrapped } from '../lib/output.js';
+import { Paint, byName, columns, counted, wrapped } from '../lib/output.js';
 import { findTypeScript } from '../lib/typescript.js';
 import { packageName } from '../lib/uses/dependencies.js';
 import { folderOf } from './helper.js';
@@ -88,6 +88,7 @@ test('entries: styles and data are none, and what `main` says counts beside `exp
   const of = (/** @type {object} */ json, /** @type {string[]} */ ...files) => entries({ 'package.json': JSON.stringify(json), ...Object.fromEntries(files.map((it) => [it, TEXT])) });
   // a source stands where the style would be looked for with another ending
   assert.deepEqual(await of({ exports: { '.': './a.ts', './x.css': './x.css', './y.json': './y.json' } }, 'a.ts', 'x.css.ts', 'y.json.ts'), ['a.ts']);
+  assert.deepEqual(await of({ exports: { '.': './a.css.ts', './json': './a.json.ts' } }, 'a.css.ts', 'a.json.ts', 'index.ts'), ['a.css.ts', 'a.json.ts']);
   assert.deepEqual(await of({ exports: { './sub': './s.ts' }, main: './m.ts' }, 's.ts', 'm.ts'), ['m.ts', 's.ts']);
   assert.deepEqual(await of({ exports: { '.': './gone.ts', './sub': './s.ts' }, main: './m.ts' }, 's.ts', 'm.ts'), ['m.ts', 's.ts']);
   assert.deepEqual(await of({ exports: { '.': './a.ts', './sub': './a.ts' } }, 'a.ts'), ['a.ts']);
@@ -103,6 +104,41 @@ test('entries: packages in the directory, private ones alone, and roots without 
   assert.deepEqual(await entries({ 'a.test.ts': TEXT, 'b.ts': 'import "./b";\n' }), ['b.ts']);
   assert.deepEqual(await entries({ 'a.ts': 'import "./b";\n', 'b.ts': 'import "./a";\n' }), ['a.ts', 'b.ts']);
   assert.deepEqual(await entries({ 'a.ts': TEXT, 'b.ts': TEXT }, ['b', 'b.ts']), ['b.ts']);
+});
+
+test('entries that are named: below the directory, else below the current one, and by what has the types of JavaScript', async () => {
+  const files = { 'a.ts': TEXT, 'sub/index.ts': TEXT, 'b.d.ts': TEXT, 'b.js': TEXT, 'c.js': TEXT, 'c.ts': TEXT, 'd.js': TEXT };
+  assert.deepEqual(await entries(files, ['a.ts', './a', 'sub', 'sub/', 'b.js', 'b', 'd']), ['a.ts', 'sub/index.ts', 'b.d.ts', 'd.js']);
+  for (const it of ['none', 'a.js/x', '../a.ts', '']) await assert.rejects(entries(files, ['a', it]), /^Error: no such module: /, it);
+  const before = process.cwd();
+  process.chdir(folderOf({ 'a.ts': '', 'more/e.ts': '' }));
+  try {
+    assert.deepEqual(await entries(files, ['a.ts']), ['a.ts']);
+    await assert.rejects(entries(files, ['more/e.ts']), /^Error: no such module: more\/e\.ts in /);
+  } finally {
+    process.chdir(before);
+  }
+});
+
+test('entries of deno.json count beside those of package.json, each key once and with its first file', async () => {
+  const json = (/** @type {unknown} */ it) => JSON.stringify(it);
+  const files = { 'a.ts': TEXT, 'b.ts': TEXT, 'c.ts': TEXT, 'index.ts': TEXT };
+  assert.deepEqual(await entries({ ...files, 'deno.json': json({ exports: { '.': './a.ts', './b': { browser: './c.ts', deno: './none.ts', default: './b.ts' } } }) }), ['a.ts', 'b.ts']);
+  assert.deepEqual(await entries({ ...files, 'package.json': json({ main: 'b.ts' }), 'deno.json': json({ exports: './a.ts' }) }), ['b.ts', 'a.ts']);
+  assert.deepEqual(await entries({ ...files, 'package.json': json({ main: 'b.ts' }), 'deno.json': json({ exports: ['./b.ts'] }) }), ['b.ts']);
+  assert.deepEqual(await entries({ ...files, 'deno.json': json({ exports: './a.ts' }), 'deno.jsonc': json({ exports: './b.ts' }) }), ['a.ts']);
+  assert.deepEqual(await entries({ ...files, 'deno.json': json({ name: 'x' }) }), ['index.ts']);
+  assert.deepEqual(await entries({ ...files, 'deno.json': json({ exports: './none.ts' }) }), ['index.ts']);
+});
+
+test('entries: inner packages by what they say, else by their usual module, but for those of tests and examples', async () => {
+  const json = (/** @type {unknown} */ it) => JSON.stringify(it);
+  const files = { 'one/package.json': json({ main: 'x.ts' }), 'one/x.ts': TEXT, 'one/index.ts': TEXT, 'two/package.json': '{}', 'two/mod.ts': TEXT, 'three/deno.jsonc': json({ exports: './y.ts' }), 'three/y.ts': TEXT,
+    'examples/e/package.json': '{}', 'examples/e/index.ts': TEXT, 'four/package.json': '{}', 'four/z.ts': TEXT, 'z.ts': 'import "./four/z";\n' };
+  assert.deepEqual(await entries(files), ['one/x.ts', 'three/y.ts', 'two/mod.ts']);
+  // what is JSON, or imported by itself alone, is no module that others import
+  assert.deepEqual(await entries({ 'a.ts': 'import "./a";\nimport "./b.json";\nimport "./c";\n', 'b.json': '{}', 'c.ts': TEXT }), ['a.ts']);
+  assert.deepEqual(await entries({ 'x.test.ts': 'import "./y.test";\n', 'y.test.ts': '' }), ['x.test.ts']);
 });
 
 test('packages of the directory: of two with one name that with the shorter path, and a configuration of Deno too', () => {
@@ -145,5 +181,17 @@ test('the newest TypeScript of 4.8 to 6 is taken, and no other', () => {
     writeFileSync(path.join(folder, 'node_modules/typescript/package.json'), JSON.stringify({ name: 'typescript', version }));
     writeFileSync(path.join(folder, 'node_modules/typescript/lib/typescript.js'), '');
     assert.equal(findTypeScript(folder).version, isTaken ? version : beside.version, version);
+  }
+});
+
+test('names are ordered as the language orders them, and capitals count where all else is the same', () => {
+  const signs = ['_', '$', '0', '1', '9', 'a', 'B', 'b', 'Z', 'é', '#'];
+  const names = ['', ...signs, ...signs.flatMap((a) => signs.flatMap((b) => [a + b, `${a}x${b}`]))].map((name) => ({ name }));
+  for (const a of names) {
+    for (const b of names) {
+      const [x, y] = [a, b].map((it) => it.name.toLowerCase());
+      const wanted = Math.sign(x.localeCompare(y, 'en')) || (a.name < b.name ? -1 : a.name > b.name ? 1 : 0);
+      assert.equal(Math.sign(byName(a, b)), wanted, `${a.name} ${b.name}`);
+    }
   }
 });

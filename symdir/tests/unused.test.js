@@ -114,6 +114,11 @@ test('what package.json runs and what its patterns mean, built or not, in each p
   assert.deepEqual(files('--production').sort(), [...unreached, 'tools/four.tsx', 'tools/three.ts', 'un/seven.ts'].sort());
 });
 
+test('data isn\'t told as unused, though an unused file alone imports it', () => {
+  const folder = folderOf({ 'index.ts': 'export {};\n', 'dead.ts': 'import data from "./data.json";\nexport const all = data;\n', 'data.json': '{}' });
+  assert.deepEqual(answer(['unused', folder]).files, ['dead.ts']);
+});
+
 test('types that comments of JavaScript import are used', () => {
   const out = answer(['unused', folderOf({ 'index.js': '/** @type {import("./types").T} */\nexport let t;\n', 'types.ts': 'export type T = 1;\nexport type U = 2;\n' })]);
   assert.deepEqual([out.files, out.exports.map((/** @type {any} */ it) => it.name)], [[], ['U']]);

@@ -2,6 +2,7 @@ import assert from 'node:assert/strict';
 import path from 'node:path';
 import test from 'node:test';
 
+import { openFolder } from '../lib/library/index.js';
 import { answer, folderOf, symdir } from './helper.js';
 import { Language, ts } from './language.js';
 import { referencesTo } from './wanted.js';
@@ -138,6 +139,12 @@ test('a local name, and a name that nothing uses', () => {
   assert.equal(symdir(['uses', folderOf(files), 'index.ts:1:17']).status, 1);
 });
 
+test('of the names in a line those are asked that are declared there, and not one of another file\'s line of that number', () => {
+  const folder = folderOf({ 'index.ts': 'import { a } from "./a"; export const b = a;\nexport { a };\n', 'a.ts': 'export const a = 1;\n' });
+  const asked = (/** @type {string} */ spot) => answer(['uses', folder, spot]).map((/** @type {any} */ it) => it.name);
+  assert.deepEqual([asked('index.ts:1'), asked('index.ts:2'), asked('index.ts:1:10')], [['b'], ['a'], ['a']]);
+});
+
 test('what people read', () => {
   const small = folderOf({ 'index.ts': 'export * from "./a";\nimport { a } from "./a";\nexport function f() { return a; }\n', 'a.ts': 'export const a = 1;\n' });
   assert.deepEqual(symdir(['uses', small, 'a.ts:1']), { status: 0, stderr: '', stdout: `a  const  a.ts:1:14: 2 uses in 1 file
@@ -149,4 +156,108 @@ test('what people read', () => {
   assert.deepEqual(symdir(['uses', small, 'a.ts:1:1']), { status: 1, stdout: 'no name of a variable or a type at a.ts:1:1\n', stderr: '' });
   assert.deepEqual(symdir(['uses', small, 'a.ts:1', 'b']), { status: 1, stdout: 'no name b at a.ts:1\n', stderr: '' });
   assert.deepEqual(symdir(['uses', small, 'a.ts']), { status: 2, stdout: '', stderr: 'symdir: uses takes FILE:LINE or FILE:LINE:COLUMN, as `symdir uses . src/a.ts:3:14`\n' });
+});
+
+/** @param {string} text @param {string} name @returns {string[]} where it stands, as `LINE:COLUMN` and whether as a type: behind `typeof`, or in a line that begins so */
+function standsIn(text, name) {
+  return text.split('\n').flatMap((line, i) => [...line.matchAll(new RegExp(`(typeof )?\\b${name}\\b`, 'g'))].map(({ index = 0, 1: word = '' }) => (
+    `${i + 1}:${index + word.length + 1} ${word !== '' || line.startsWith('/*type*/')}`)));
+}
+
+/** Each way to declare a name in a function, or in a type: `l` and a number stand for values, `L` and a number for types. */
+const LOCAL = `export function all(l1: number, [l2, , l3 = l1]: any, { l4, a: l5, ["b"]: l6 = l4, c: [l7], d: { l8 }, ...l9 }: any, ...l10: any[]) {
+  let l11 = l1, [l12, [l13 = l11]] = l2, { l14, e: l15, f: { l16 = l14 } = l15 } = l6;
+  const { [l11]: l17, ...l18 } = l9;
+  var l19 = l3;
+  for (const l20 of l10) l20;
+  for (let l21 = 0; l21 < l11; l21++) l21;
+  for (const l22 in l9) l22;
+  try { l5; } catch (l23) { l23; }
+  try { l7; } catch ({ l24, g: [l25] }) { l24; l25; }
+  class l26 { static h = l26; constructor(readonly l27 = l8, private l28: any, l29 = l27) { l28; l29; } set i(l30: any) { l30; } m(l31: any, [l32]: any) { return l31 + l32; } }
+  function l33(l34: any) { return l33(l34); }
+  const l35 = function l36(l37: any) { return l36(l37); }, l38 = (l39: any, { l40 }: any) => l39 + l40, l41 = class l42 { static j = l42; };
+  enum l43 { k = l16 }
+/*type*/  interface L1 { n: L1; o(l44: any): typeof l44; (l45: any): typeof l45; new (l46: any): typeof l46 }
+/*type*/  type L2 = L1 | ((l47: any) => typeof l47);
+/*type*/  type L3 = L2;
+/*type*/  let l48: L3;
+  return [new l26(l12, l13), l17, l18, l19, l35, l38, l41, l43.k];
+}
+`;
+
+test('each way to declare a local name: it is found where it is declared, and wherever else it stands', async (t) => {
+  const made = await openFolder(folderOf({ 'index.ts': LOCAL }));
+  t.after(() => made.close());
+  const names = [...new Set(LOCAL.match(/\b[lL]\d+\b/g))];
+  for (const name of names) {
+    const [declared, ...used] = standsIn(LOCAL, name);
+    const [line, column] = declared.split(' ')[0].split(':').map(Number);
+    assert.deepEqual((await made.uses({ file: 'index.ts', line, column })).map((it) => [it.name, it.defined, it.uses.map((one) => `${one.line}:${one.column} ${one.isType}`)]),
+      [[name, [{ kind: 'local', file: 'index.ts', line, column }], used]], name);
+    for (const it of [declared, ...used]) {
+      const [atLine, atColumn] = it.split(' ')[0].split(':').map(Number);
+      const [{ ways }] = await made.where({ file: 'index.ts', line: atLine, column: atColumn });
+      assert.deepEqual(ways, [{ through: [], defined: { kind: 'local', file: 'index.ts', line, column }, unresolved: null }], `${name} ${it}`);
+    }
+  }
+  assert.equal(names.length, 51);
+});
+
+/** Each way to declare a name of a module, and, in lines of values and of types, what refers to it. */
+const DECLARED = {
+  'd.ts': `export class Decl1 {}
+export abstract class Decl2 {}
+export function Decl3(...it: any) {}
+export interface Decl4 {}
+export type Decl5 = 1;
+export enum Decl6 { x }
+export namespace Decl7 { export const y = 1; export type Q = 1 }
+export namespace Decl8.E { export const y = 1; }
+export import Decl9 = E9;
+namespace E9 { export const y = 1; }
+export const Decl10 = 1, [Decl11, { z: Decl12 }] = [1, { z: 1 }] as any, { Decl13, ...Decl14 } = {} as any;
+export let Decl15 = 1;
+export var Decl16 = 1;
+export declare const Decl17: number;
+`,
+  'index.ts': `import { Decl1, Decl2, Decl3, Decl4, Decl5, Decl6, Decl7, Decl8, Decl9, Decl10, Decl11, Decl12, Decl13, Decl14, Decl15, Decl16, Decl17 } from "./d";
+export class A1 extends Decl1 { [Decl10] = Decl11; static b = Decl12; m(a = Decl13) {} @Decl3 c = 1; }
+export enum A2 { a = Decl10 }
+export const a3 = [new Decl2(), Decl3(), Decl6.x, Decl7.y, Decl8.E.y, Decl9.y, \`\${Decl14}\`, Decl15 ? Decl16 : Decl17, { Decl10, d: Decl11, [Decl12]: 1 }];
+export default Decl1;
+/*type*/ export let a4: Decl1 = null!;
+/*type*/ export interface A5 extends Decl4 { a: Decl5; b: typeof Decl10; [c: string]: Decl1 | any }
+/*type*/ export type A6<T extends Decl4 = Decl4> = Decl5 | Decl7.Q;
+/*type*/ export class A7 implements Decl4 { [a: string]: Decl1 }
+/*type*/ export const a8 = null! as Decl4, a9 = f<Decl5>(), a10 = <Decl4>null!;
+/*type*/ export let a11: import("./d").Decl4, a12: (it: Decl5) => Decl4;
+/*type*/ declare function f<T extends Decl4>(): T | Decl5;
+`,
+};
+
+test('each way to declare a name of a module: its uses are where else it stands, those in types told as such', async (t) => {
+  const made = await openFolder(folderOf(DECLARED), { entry: ['index.ts'] });
+  t.after(() => made.close());
+  for (const name of new Set(DECLARED['d.ts'].match(/\bDecl\d+\b/g))) {
+    const [declared, ...more] = standsIn(DECLARED['d.ts'], name);
+    // what an alias is made of refers to the same
+    const own = name === 'Decl9' ? standsIn(DECLARED['d.ts'], 'E9').slice(0, 1) : more;
+    const [imported, ...used] = standsIn(DECLARED['index.ts'], name);
+    const [line, column] = declared.split(' ')[0].split(':').map(Number);
+    const [found] = await made.uses({ file: 'd.ts', line, column });
+    // an import is of types alone where no value is needed
+    const isType = used.every((it) => it.endsWith('true'));
+    const wanted = [...own.map((it) => `d.ts:${it}`), `index.ts:${imported.replace('false', String(isType))}`, ...used.map((it) => `index.ts:${it}`)];
+    assert.deepEqual(found.uses.map((it) => `${it.file}:${it.line}:${it.column} ${it.isType}`), wanted, name);
+    assert.deepEqual(found.uses.map((it) => it.how).filter((it) => it !== 'reference').sort(), name === 'Decl4' ? ['import', 'import type'] : ['import'], name);
+  }
+});
+
+test('names that stand close together are found one by one', async (t) => {
+  const [head, count] = ['import{a}from"./a";export type T=[', 80];
+  const made = await openFolder(folderOf({ 'index.ts': `${head}${'a,'.repeat(count)}];`, 'a.ts': 'export type a=1' }), { entry: ['index.ts'] });
+  t.after(() => made.close());
+  const [{ uses }] = await made.uses({ file: 'a.ts', line: 1, column: 13 });
+  assert.deepEqual(uses.map((it) => it.column), [8, ...Array.from({ length: count }, (_, i) => head.length + 1 + i * 2)]);
 });

@@ -117,3 +117,20 @@ test('where no name stands, and places that aren\'t there', () => {
   assert.deepEqual(symdir(['where', folder, 'none.ts:1']), { status: 2, stdout: '', stderr: `symdir: no such module: none.ts in ${folder}\n` });
   assert.equal(symdir(['where', folder]).stderr, 'symdir: where takes FILE:LINE or FILE:LINE:COLUMN, as `symdir where . src/a.ts:3:14`\n');
 });
+
+test('what a path ends at that is no definition, in words, and the modules before it', () => {
+  const folder = folderOf({
+    'index.ts': 'import { a, b, c, d } from "./m";\nexport { e } from "npm:far";\nlet t: nowhere;\n', 'm.ts': 'export { a } from "far";\nexport { b } from "./gone";\nexport { c } from "./n";\nexport { d } from "./o.cjs";\n',
+    'n.ts': 'export {};\n', 'o.cjs': 'exports.d = 1;\n', 'package.json': '{"dependencies":{"far":"1"}}' });
+  assert.deepEqual(symdir(['where', folder, 'index.ts:1']), { status: 1, stderr: '', stdout: `a  at index.ts:1:10
+  in npm:far, an external module    via m.ts
+b  at index.ts:1:13
+  unresolved: m.ts imports "./gone", which resolves to no file    via m.ts
+c  at index.ts:1:16
+  unresolved: n.ts has no export c    via m.ts
+d  at index.ts:1:19
+  not known: o.cjs is CommonJS    via m.ts
+` });
+  assert.equal(symdir(['where', folder, 'index.ts:2']).stdout, 'e  at index.ts:2:10\n  in npm:far, an external module\n');
+  assert.equal(symdir(['where', folder, 'index.ts:3', 'nowhere']).stdout, 'nowhere  at index.ts:3:8\n  a global\n');
+});

@@ -89,8 +89,9 @@ test('`default` of a declaration file that may be one of CommonJS is told as not
 
 test('`default` of other declaration files: that of a module of ECMAScript lacks it, and CommonJS may have it', () => {
   const text = 'export const x: 1;\n';
-  const folder = folderOf({ 'index.mts': 'export { default as a } from "./a.cjs";\nexport { default as b } from "./b.mjs";\n', 'a.d.cts': text, 'b.d.mts': text });
-  assert.deepEqual(answer(['api', folder]).names.map((/** @type {any} */ it) => it.unresolved[0].what), ['unknown', 'name']);
+  const folder = folderOf({ 'index.mts': 'export { default as a } from "./a.cjs";\nexport { default as b } from "./b.mjs";\nexport { default as c } from "./c.d.js";\n', 'a.d.cts': text, 'b.d.mts': text, 'c.d.tsx': 'export const x = 1;\n' });
+  // the last one is a source, whatever stands before its ending
+  assert.deepEqual(answer(['api', folder]).names.map((/** @type {any} */ it) => it.unresolved[0].what), ['unknown', 'name', 'name']);
 });
 
 test('names along several modules with `export =`, each of which passes on the next', () => {

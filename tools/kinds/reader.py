@@ -53,7 +53,7 @@ def kind_lines(enum, kind):
         said.append('/// Tried before all other kinds, by `kinds`.')
     given = ["object: &Object<'_, '_>"]
     head = head_line(('pub(crate) fn ' if kind.is_first else 'fn ') + kind.reader, ['alloc: Global', *given] if asks(kind) else given, enum.name)
-    promise = 'ensures { IsReadResult %s_shape result (read_as_kind Name.%s (object_data object.now)) }' % (enum.small(), kind.name)
+    promise = 'ensures { IsReadResult %s_name_and_field_values result (read_as_kind Name.%s (object_data object.now)) }' % (enum.small(), kind.name)
     return [*said, head, '    ' + promise, '{', *space_all(4, body_lines(kind)), '}']
 
 
@@ -64,7 +64,7 @@ def chosen_lines(enum):
     arms = []
     for it in enum.kinds:
         arms.append('        "%s" => some_kind(%s(%sobject)),' % (it.text, it.reader, 'alloc, ' if asks(it) else ''))
-    promise = 'ensures { IsReadResult (option_map %s_shape) result (read_%s kind.now (object_data object.now)) }' % (name, name)
+    promise = 'ensures { IsReadResult (option_map %s_name_and_field_values) result (read_%s kind.now (object_data object.now)) }' % (name, name)
     return ['/// ' + enum.reader, '#[tactic(auto, unfolding(crate::specs::KindShapesTable::read_%s))]' % name, head,
             '    ' + promise, '{', '    match kind {', *arms, '        _ => Ok(None),', '    }', '}']
 
@@ -72,7 +72,7 @@ def chosen_lines(enum):
 def enum_file(enum):
     """Returns the file of an enum."""
     name = enum.small()
-    ghosts = [*USES, 'Rattle.symq_reader.specs.KindShapesTable.{read_%s, %s_shape}' % (name, name)]
+    ghosts = [*USES, 'Rattle.symq_reader.specs.KindShapesTable.{read_%s, %s_name_and_field_values}' % (name, name)]
     words = any(it.sort.call.startswith('member_keywords::') for kind in enum.kinds for it in kind.fields)
     brought = ['use crate::faults::FormatFault;', 'use crate::fields::{self, Object};', *(['use crate::member_keywords;'] if words else []),
                'use crate::kinds::some_kind;', 'use std::alloc::Global;', 'use symbols_ast::tree::%s;' % enum.name]
@@ -82,7 +82,7 @@ def enum_file(enum):
 
 def fields_of_lines(table):
     """Returns the function of contracts that has each kind's fields by key and sort."""
-    lines = ['abbrev pub json_fields_of_kind : KindName → List (List ℕ × FieldSort)']
+    lines = ['abbrev pub json_fields_of_kind : KindName → List (List ℕ × JsonFieldSort)']
     for enum in table.enums:
         lines.append('-- ' + clause(enum.comment))
         for kind in enum.kinds:
@@ -104,28 +104,28 @@ def slots_lines(enum):
     for kind in enum.kinds:
         slots = ['(codes "%s", %s) ∷ ' % (it.key, it.sort.held % it.name) for it in kind.fields]
         rows.append('%s (%s.%s %s) = %s[]' % (name, enum.name, kind.name, ' '.join(it.name for it in kind.fields), ''.join(slots)))
-    return ['abbrev pub %s : %s → List (List ℕ × FieldValue)' % (name, enum.name), *rows]
+    return ['abbrev pub %s : %s → List (List ℕ × JsonFieldValue)' % (name, enum.name), *rows]
 
 
 def chosen_contract_lines(enum):
     """Returns the function of contracts that reads the kind of a name, if it is one of the enum."""
     name = enum.small()
-    return ['unfoldable pub read_%s : List ℕ → Data → Option (Option KindShape)' % name,
+    return ['unfoldable pub read_%s : List ℕ → Data → Option (Option KindNameAndFieldValues)' % name,
             'read_%s t d = read_if_kind_named (kind_name_by_text %s_kind_names_by_text t) d' % (name, name)]
 
 
 def shape_lines(enum):
     """Returns the function of contracts that has a kind of an enum as it is read."""
     name = enum.small()
-    return ['abbrev pub %s_shape : %s → KindShape' % (name, enum.name),
-            '%s_shape k = record { name = %s_kind_name k; slots = %s_field_values k }' % (name, name, name)]
+    return ['abbrev pub %s_name_and_field_values : %s → KindNameAndFieldValues' % (name, enum.name),
+            '%s_name_and_field_values k = record { name = %s_kind_name k; slots = %s_field_values k }' % (name, name, name)]
 
 
 def kind_table_file(table):
     """Returns the file of contracts with each kind's fields and name."""
     sorts = ', '.join(it.contract for it in SORTS.values())
     brought = uses('Rattle.std.specs.Prelude.{ℕ, List, [], ◌∷◌, codes}', DECLARED + 'names.KindName.{KindName}',
-                   DECLARED + 'names.KindName.TheVariants as Name', 'Rattle.symq_reader.specs.Kinds.{FieldSort, %s}' % sorts)
+                   DECLARED + 'names.KindName.TheVariants as Name', 'Rattle.symq_reader.specs.Kinds.{JsonFieldSort, %s}' % sorts)
     doc = """The kinds as the text of a graph has them: each kind's fields by key and sort, and the text of each kind, by the enum that has
 the kind. KindShapesTable has these keys and sorts in this order once more, beside the fields of the tree's kinds: a reading
 function is proved only where the two lists have the same."""
@@ -138,10 +138,10 @@ def kind_shapes_table_file(table):
     texts, names = (', '.join(it.small() + end for it in table.enums) for end in ('_kind_names_by_text', '_kind_name'))
     brought = uses('Rattle.std.specs.Prelude.{ℕ, List, [], ◌∷◌, Option, option_map, codes, string_bytes}', 'Rattle.serde_json.specs.Data.{Data}',
                    SPECS + 'Names.{%s}' % names)
-    brought += enum_uses(table, 'Rattle.symq_reader.specs.Kinds.{FieldValue, %s, kind_name_by_text}' % held, 'Rattle.symq_reader.specs.KindTable.{%s}' % texts,
-                         'Rattle.symq_reader.specs.KindShapes.{KindShape, read_if_kind_named, identifier_view}')
+    brought += enum_uses(table, 'Rattle.symq_reader.specs.Kinds.{JsonFieldValue, %s, kind_name_by_text}' % held, 'Rattle.symq_reader.specs.KindTable.{%s}' % texts,
+                         'Rattle.symq_reader.specs.KindShapes.{KindNameAndFieldValues, read_if_kind_named, identifier_view}')
     doc = """The kinds as they are read, by the enum that has them: each field of the tree's kinds under its key. The names in a row stand
 for the fields by place alone. It is the reading function that ties a key to a field, since it names both: where two names
 of a row are swapped, it is not proved."""
     lists = [make(it) for make in (chosen_contract_lines, slots_lines, shape_lines) for it in table.enums]
-    return contracts(doc, brought, *lists, by_enum_lines(table, 'kind_shape', 'KindShape', 'shape'))
+    return contracts(doc, brought, *lists, by_enum_lines(table, 'kind_name_and_field_values', 'KindNameAndFieldValues', 'name_and_field_values'))

@@ -4,6 +4,8 @@ import re
 import subprocess
 from dataclasses import dataclass
 
+from .mutants import FILE, NAMED, parsed
+
 TOP = os.path.dirname(os.path.dirname(os.path.dirname(os.path.abspath(__file__))))
 
 FUNCTION = re.compile(r'( *)(?:pub(?:\([a-z]+\))? )?(?:const )?(?:unsafe )?(?:extern "C" )?fn (\w+)')
@@ -125,23 +127,6 @@ def by_hand(text, impl):
     return None
 
 
-def edit_parts(text):
-    """Returns the file that an edit names, its pairs of an old and a new text, what it names to show it wrong, the function that it names, and the
-    impl that it writes by hand."""
-    named, old, pairs = {'file': '', 'shown': '', 'in': '', 'impl': ''}, None, []
-    for line in text.split('\n'):
-        key, _, value = line.partition(':')
-        value = value[1:] if value.startswith(' ') else value
-        if key in named:
-            named[key] = value.strip()
-        elif key == 'old':
-            old = value
-        elif key == 'new' and old:
-            pairs.append((old, value))
-            old = None
-    return named['file'], pairs, named['shown'], named['in'], named['impl']
-
-
 class Crate:
     """A crate's text: its files, and its functions."""
 
@@ -159,11 +144,17 @@ class Crate:
             self.others = dict(files_below(self.folder, 'specs') + files_below(self.folder, 'proofs'))
         return self.others
 
+    def mutants_path(self):
+        return os.path.join(self.folder, FILE)
+
+    def mutants(self):
+        """Returns the mutants of its file, by their names."""
+        path = self.mutants_path()
+        return parsed(os.path.relpath(path, self.top), read(path)) if os.path.isfile(path) else {}
+
     def names(self):
         """Returns the names of its edits."""
-        folder = os.path.join(self.folder, 'wrong')
-        files = sorted(os.listdir(folder)) if os.path.isdir(folder) else []
-        return [it[: -len('.edit')] for it in files if it.endswith('.edit')]
+        return sorted(self.mutants())
 
     def function_at(self, file, offset):
         line = self.texts[file].count('\n', 0, offset)
@@ -176,18 +167,21 @@ class Crate:
             return next((it for it in self.functions if it.file == file and it.name() == within), None)
         return self.function_at(file, self.texts[file].find(pairs[0][0]))
 
-    def edit(self, name):
-        """Reads an edit. Raises BadEdit if it can't be made."""
-        file, pairs, shown, within, impl = edit_parts(read(os.path.join(self.folder, 'wrong', name + '.edit')))
-        if file not in self.texts or not (pairs or within and impl):
-            raise BadEdit('it names no file of src/, or has no pair of an old and a new text')
-        text, function = self.texts[file], self.function_of(file, pairs, within)
+    def edit(self, name, mutants=None):
+        """Reads an edit, of these mutants if they are given. Raises BadEdit if it can't be made."""
+        mutant = (self.mutants() if mutants is None else mutants).get(name)
+        if mutant is None:
+            raise BadEdit('%s has no mutant %s' % (os.path.relpath(self.mutants_path(), self.top), name))
+        file, within, impl, shown = (mutant.named[it] for it in NAMED)
+        if file not in self.texts:
+            raise BadEdit('there is no %s' % file)
+        text, function = self.texts[file], self.function_of(file, mutant.pairs, within)
         if function is None:
             raise BadEdit('it changes no function')
         if impl and (shown or by_hand(text, impl) is None):
             raise BadEdit('it names a run, or no type of %s derives its impl: %s' % (file, impl))
         body = '\n'.join(text.split('\n')[function.first : function.last + 1])
-        for old, new in pairs:
+        for old, new in mutant.pairs:
             if text.count(old) != 1 and not within:
                 raise BadEdit('an old text stands %d times in %s: %s' % (text.count(old), file, old))
             if body.count(old) != 1:
@@ -197,11 +191,11 @@ class Crate:
 
     def edits(self, names):
         """Returns the edits of these names, and why each of the others can't be made."""
-        edits, bad = [], {}
+        mutants, edits, bad = self.mutants(), [], {}
         for name in names:
             try:
-                edits.append(self.edit(name))
-            except (BadEdit, OSError) as error:
+                edits.append(self.edit(name, mutants))
+            except BadEdit as error:
                 bad[name] = str(error)
         return edits, bad
 

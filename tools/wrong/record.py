@@ -4,7 +4,7 @@ import os
 import re
 
 from .clauses import named_by
-from .crates import Crate, edit_parts, functions_of, kit, libraries_below, read, write
+from .crates import Crate, functions_of, kit, libraries_below, read, write
 from .rooms import OF_FUNCTIONS, Room
 
 # the edits whose hashes fit are tried in so many turns
@@ -134,9 +134,7 @@ def names_run_alone(shown):
 
 def checked_count(top, name):
     """Returns how many edits of a crate a check tries in their turn."""
-    crate = Crate(top, name, {name: []})
-    shown = [edit_parts(read(os.path.join(crate.folder, 'wrong', it + '.edit')))[2] for it in crate.names()]
-    return sum(not names_run_alone(it) for it in shown)
+    return sum(not names_run_alone(it.named['shown']) for it in Crate(top, name, {name: []}).mutants().values())
 
 
 def crates_in_turn(top, names, turn):

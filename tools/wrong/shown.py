@@ -16,6 +16,7 @@ import run_cases
 from .choosing import CRATE, choices_of, test_name, tests_of, with_edits, word_of
 from .clauses import has_clause, missing_clauses, named_by
 from .crates import Crate, libraries_of, read, write
+from .mutants import with_shown
 
 # the sorts of cases in the order in which they are tried, each with the program that runs them
 SORTS = (('cases', 'symq'), ('forms', 'symq'), ('tables', 'symq_tables'))
@@ -170,8 +171,8 @@ def name_what_shows(crate, edit, lanes):
     words = set(edit.name.split('_'))
     best = max(found, key=lambda it: len(words & set(re.split(r'/|::|_', it))), default='')
     if best:
-        path = os.path.join(crate.folder, 'wrong', edit.name + '.edit')
-        write(path, read(path).rstrip('\n') + '\nshown: %s\n' % best)
+        path = crate.mutants_path()
+        write(path, with_shown(read(path), crate.mutants()[edit.name], best))
     return best
 
 

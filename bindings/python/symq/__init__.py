@@ -9,17 +9,11 @@
         session.query(symq.exports("file:///a.ts"))          the answer as a dataclass
 
 `graph` is the text of a graph as bytes. `strict=True` answers by strict rules. If there are no answers, `Stop` is raised, with the program's status and line.
-The functions `module`, `exports`, `names`, `symbol`, `name`, `deps`, `paths`, `definitions`, `leaves` and `resolve` make queries. A query without an answer
-has a `Fault`.
+For each form of query the function of its name makes one. A query without an answer has a `Fault`.
 """
+from . import _typed
 from ._calls import Session, Stop, answer, query
-from ._typed import (
-    Definition, Dependency, Entry, Export, Exports, Fault, IdReference, ImportReference, Leaf, Link, Owner, QualifiedReference, Query, Reference, Shared,
-    Unresolved, WholeModule, definitions, deps, exports, leaves, module, name, names, paths, resolve, symbol,
-)
+from ._typed import *
 
-__all__ = [
-    "Definition", "Dependency", "Entry", "Export", "Exports", "Fault", "IdReference", "ImportReference", "Leaf", "Link", "Owner", "QualifiedReference", "Query",
-    "Reference", "Session", "Shared", "Stop", "Unresolved", "WholeModule", "answer", "definitions", "deps", "exports", "leaves", "module", "name", "names",
-    "paths", "query", "resolve", "symbol",
-]
+__all__ = ["Session", "Stop", "answer", "query"]
+__all__ += _typed.__all__

@@ -3,6 +3,12 @@ import json
 from dataclasses import dataclass
 from typing import Any, Callable, Dict, Generic, List, Optional, Sequence, Tuple, TypeVar, Union
 
+__all__ = [
+    "Definition", "Dependency", "Entry", "Export", "Exports", "Fault", "IdReference", "ImportReference", "Input", "Leaf", "Link", "Owner",
+    "QualifiedReference", "Query", "Reference", "Shared", "Unresolved", "WholeModule", "definitions", "deps", "exports", "inputs", "leaves",
+    "module", "name", "names", "paths", "resolve", "symbol",
+]
+
 T = TypeVar("T")
 Pair = Tuple[str, str]
 
@@ -137,6 +143,15 @@ class Link:
     next: Tuple["Entry", ...]
 
 
+@dataclass(frozen=True)
+class Input:
+    """A specifier that the answer to a query rests on. `found` is `module`, `absent`, or `redirect`, to `module`."""
+
+    specifier: str
+    found: str
+    module: Optional[str] = None
+
+
 Leaf = Union[Definition, Unresolved, WholeModule]
 Entry = Union[Link, Definition, Unresolved, WholeModule]
 
@@ -181,6 +196,10 @@ def _entry(given: Dict[str, Any]) -> Entry:
 
 def _entries(given: List[Any]) -> Tuple[Any, ...]:
     return tuple(map(_entry, given))
+
+
+def _inputs(given: List[Dict[str, str]]) -> Tuple[Input, ...]:
+    return tuple(Input(it["specifier"], it["found"], it.get("module")) for it in given)
 
 
 def _names(given: List[List[str]]) -> Tuple[Tuple[str, ...], ...]:
@@ -263,6 +282,11 @@ def leaves(specifier: str, symbol: int) -> Query[Tuple[Leaf, ...]]:
 def resolve(specifier: str, reference: Reference) -> Query[Tuple[Entry, ...]]:
     """Returns the definition paths of a reference in a module."""
     return Query(("resolve", specifier, reference.to_json()), _value("entries", _entries))
+
+
+def inputs(query: Query[Any]) -> Query[Tuple[Input, ...]]:
+    """Lists the specifiers that the answer to a query rests on."""
+    return Query(("inputs", query.form), _value("inputs", _inputs))
 
 
 def read_all(queries: Sequence[Query[T]], lines: bytes) -> List[Union[T, Fault]]:

@@ -120,16 +120,18 @@ class Hosts(unittest.TestCase):
         self.assertEqual(symq.answer(b"{}", lines + b"x\n" * 20000),
                          b"null\n" + b'{"fault":"bad query"}\n' * 20000)
 
-    def test_a_thread_has_the_stack_for_long_ways(self):
+    def test_a_small_stack_suffices_for_long_ways(self):
         graph, told = passed_on(20000), []
-        before = threading.stack_size(64 << 20)
+        before = threading.stack_size(256 << 10)
         try:
-            thread = threading.Thread(target=lambda: told.append(symq.answer(graph, b'["definitions","m0",1]\n')))
+            thread = threading.Thread(target=lambda: told.append(symq.answer(graph, b'["definitions","m0",1]\n["paths","m0",1]\n')))
             thread.start()
         finally:
             threading.stack_size(before)
         thread.join()
-        self.assertEqual([it["module"] for it in json.loads(told[0])["definitions"]], ["m19999"])
+        definitions, paths = told[0].splitlines()
+        self.assertEqual([it["module"] for it in json.loads(definitions)["definitions"]], ["m19999"])
+        self.assertEqual(paths.count(b'"module"'), 20000)
 
     def test_a_long_error_line(self):
         name = "a" * 100000

@@ -13,7 +13,15 @@ import unittest
 import test_symq
 from test_symq import SERVED, STRICT, symq
 
-FORMS = ["module", "exports", "names", "symbol", "name", "deps", "paths", "definitions", "leaves", "resolve"]
+
+def asked_forms():
+    """Returns the forms of the case that asks a query of each, except its last line, which has a form that is none."""
+    [case] = [it for it in SERVED if it.name == "cases/each_form_of_query"]
+    return list(dict.fromkeys(json.loads(line)[0] for line in case.given.splitlines()[:-1]))
+
+
+# the last one has another query for its argument
+FORMS = [*asked_forms(), "inputs"]
 REFERENCES = {"id": symq.IdReference, "qualified": symq.QualifiedReference, "import": symq.ImportReference}
 # answers that are one value under a key; those of the other forms are objects
 KEYS = {"resolve": "entries", **{it: it for it in FORMS if it not in ("exports", "resolve")}}
@@ -24,6 +32,8 @@ def typed(form, *given):
     if form == "resolve":
         kind, *parts = given[1]
         return symq.resolve(given[0], REFERENCES[kind](*(tuple(it) if isinstance(it, list) else it for it in parts)))
+    if form == "inputs":
+        return symq.inputs(typed(*given[0]))
     return getattr(symq, form)(*given)
 
 
@@ -31,7 +41,8 @@ def of_form(line):
     """Returns the form and the arguments of a query line that a function of the package makes byte for byte; None for any other."""
     try:
         form, *given = json.loads(line)
-        return (form, *given) if form in FORMS and typed(form, *given).line() == line + b"\n" else None
+        is_form = form in FORMS and (form != "inputs" or given[0][0] in FORMS[:-1])
+        return (form, *given) if is_form and typed(form, *given).line() == line + b"\n" else None
     except (ValueError, TypeError, LookupError, AttributeError):
         return None
 
@@ -69,7 +80,8 @@ class Typed(unittest.TestCase):
         counts = {it: sum(form == it for _, queries in asked() for form, _, _ in queries) for it in FORMS}
         self.assertGreater(min(counts.values()), 9, counts)
         answers = b"\n".join(line for _, queries in asked() for _, _, line in queries).decode()
-        for part in ('"next"', '"star"', '"import_type"', '"id"', '"qualified"', '"import"', '"shared"', '"fault":"unknown symbol"', '"scope"', "\nnull\n"):
+        for part in ('"next"', '"star"', '"import_type"', '"id"', '"qualified"', '"import"', '"shared"', '"fault":"unknown symbol"', '"scope"', "\nnull\n", '"redirect"',
+                     '"absent"'):
             self.assertIn(part, answers)
 
     def test_answers_lose_nothing(self):

@@ -261,6 +261,25 @@ fn entry_of(keys: Keys) -> Option<Entry> {
     }))
 }
 
+/// What the graph has under a specifier.
+#[derive(Clone, Copy, Debug, PartialEq, Eq, Serialize, Deserialize)]
+#[serde(rename_all = "lowercase")]
+pub enum Found {
+    Module,
+    Redirect,
+    Absent,
+}
+
+/// A specifier that the answer to a query rests on.
+#[derive(Clone, Debug, PartialEq, Eq, Serialize, Deserialize)]
+pub struct Input {
+    pub found: Found,
+    /// The module that a redirect leads to.
+    #[serde(default, skip_serializing_if = "Option::is_none")]
+    pub module: Option<String>,
+    pub specifier: String,
+}
+
 /// A query, made by one of the functions below, whose answer is a `T`.
 #[derive(Clone, Debug)]
 pub struct Query<T> {
@@ -362,6 +381,11 @@ pub fn leaves(specifier: &str, symbol: u32) -> Query<Vec<Entry>> {
 pub fn resolve(specifier: &str, reference: &Reference) -> Query<Vec<Entry>> {
     let form = json!(["resolve", specifier, reference]);
     Query::new(form, Some("entries"))
+}
+
+/// Lists the specifiers that the answer to a query rests on.
+pub fn inputs<T>(query: &Query<T>) -> Query<Vec<Input>> {
+    Query::new(json!(["inputs", query.form]), Some("inputs"))
 }
 
 fn lines_of<T: DeserializeOwned>(queries: &[Query<T>]) -> String {

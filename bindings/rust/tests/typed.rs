@@ -29,9 +29,33 @@ where
     })
 }
 
+/// Returns what an answer line is by the typed query for the inputs of a query; `None` if there is no such query.
+fn typed_inputs(of: &[Value], line: &str, answer: &[u8]) -> Option<Value> {
+    let at = of.get(1)?.as_str()?;
+    let number = || u32::try_from(of.get(2)?.as_u64()?).ok();
+    let query = match of.first()?.as_str()? {
+        "module" => typed::inputs(&typed::module(at)),
+        "exports" => typed::inputs(&typed::exports(at)),
+        "names" => typed::inputs(&typed::names(at)),
+        "name" => typed::inputs(&typed::name(at, number()?)),
+        "paths" => typed::inputs(&typed::paths(at, number()?)),
+        "definitions" => typed::inputs(&typed::definitions(at, number()?)),
+        "leaves" => typed::inputs(&typed::leaves(at, number()?)),
+        "resolve" => {
+            let reference = serde_json::from_value(of.get(2)?.clone()).ok()?;
+            typed::inputs(&typed::resolve(at, &reference))
+        }
+        _ => return None,
+    };
+    by(query, Some("inputs"), line, answer)
+}
+
 /// Returns what an answer line is by the typed query of a line; `None` if there is no such query.
 fn typed_answer(line: &str, answer: &[u8]) -> Option<Value> {
     let parts: Vec<Value> = serde_json::from_str(line).ok()?;
+    if parts.first()? == "inputs" {
+        return typed_inputs(parts.get(1)?.as_array()?, line, answer);
+    }
     let text = |i: usize| parts.get(i)?.as_str();
     let number = |i: usize| u32::try_from(parts.get(i)?.as_u64()?).ok();
     let at = text(1)?;
@@ -105,7 +129,7 @@ fn answers_lose_nothing() {
                 .or_default() += 1;
         }
     }
-    assert_eq!(counts.len(), 10, "{counts:?}");
+    assert_eq!(counts.len(), 11, "{counts:?}");
     assert!(counts.values().all(|&it| it > 8), "{counts:?}");
 }
 

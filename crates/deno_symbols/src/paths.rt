@@ -3,5 +3,6 @@
 pub use symbols_paths::{
     DeclRef, Definition, DefinitionKind, DefinitionOrUnresolved, DefinitionPathLink,
     DefinitionPathNode, DefinitionPathNodeResolved, DefinitionUnresolved, DefinitionUnresolvedKind,
-    DefinitionsIter, DefinitionsOrUnresolvedsIter, FindDefinitions, ResolvedSymbolDepEntry,
+    DefinitionsIter, DefinitionsOrUnresolvedsIter, FindDefinitions, OpenedPathNode,
+    ResolvedSymbolDepEntry,
 };

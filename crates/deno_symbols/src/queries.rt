@@ -2,7 +2,7 @@
 
 pub use symbols_queries::{
     Answer, AnswerQueries, DeclDeps, DefinitionBySpecifier, DepEntryBySpecifier, ExportBySpecifier,
-    ExporterBySpecifier, ExportsBySpecifier, PathBySpecifier, PathEndBySpecifier,
-    PathLinkBySpecifier, Query, SharedNameBySpecifier, StarStatementBySpecifier,
+    ExporterBySpecifier, ExportsBySpecifier, Found, InputsOf, PathBySpecifier, PathEndBySpecifier,
+    PathLinkBySpecifier, Query, QueryInput, SharedNameBySpecifier, StarStatementBySpecifier,
     UnresolvedBySpecifier,
 };

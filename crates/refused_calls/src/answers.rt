@@ -4,7 +4,7 @@ use deno_symbols::exports::PublicName;
 use deno_symbols::paths::{DeclRef, DefinitionUnresolvedKind};
 use deno_symbols::queries::{
     Answer, DeclDeps, DefinitionBySpecifier, DepEntryBySpecifier, ExportBySpecifier,
-    ExportsBySpecifier, PathBySpecifier, PathEndBySpecifier, PathLinkBySpecifier,
+    ExportsBySpecifier, PathBySpecifier, PathEndBySpecifier, PathLinkBySpecifier, QueryInput,
     UnresolvedBySpecifier,
 };
 use std::io;
@@ -141,6 +141,13 @@ impl Lines for DepEntryBySpecifier<'_> {
     }
 }
 
+impl Lines for QueryInput<'_> {
+    fn print_lines<R: Print>(&self, rt: &R) -> io::Result<()> {
+        let specifier = self.specifier.as_str();
+        println!(rt; "      {specifier}: {:?}", self.found)
+    }
+}
+
 impl Lines for Answer<'_> {
     fn print_lines<R: Print>(&self, rt: &R) -> io::Result<()> {
         match self {
@@ -155,6 +162,7 @@ impl Lines for Answer<'_> {
             Answer::Definitions(definitions) => print_each(rt, "    definitions", definitions),
             Answer::Leaves(ends) => print_each(rt, "    leaves", ends),
             Answer::Resolve(entries) => print_each(rt, "    entries", entries),
+            Answer::Inputs(inputs) => print_each(rt, "    inputs", inputs),
         }
     }
 }

@@ -73,7 +73,9 @@ fn reference(alloc: Global) -> Result<SymbolNodeDep<'static>, AllocError> {
 }
 
 /// The modules of the queries, in their order. The first specifier resolves to no module.
-const QUERIED: [&str; 11] = ["absent", "a", "a", "b", "a", "b", "q", "q", "q", "q", "q"];
+const QUERIED: [&str; 12] = [
+    "absent", "a", "a", "b", "a", "b", "q", "q", "q", "q", "q", "q",
+];
 
 /// Returns the name `x` of scope 1.
 fn name_x(alloc: Global) -> Result<Id, AllocError> {
@@ -99,6 +101,7 @@ fn query(alloc: Global, index: usize, module: &'static str) -> Result<Query<'sta
         8 => Query::Definitions(module, first),
         9 => Query::Leaves(module, second),
         10 => Query::Resolve(module, reference(alloc)?),
+        11 => Query::Paths(module, first).inputs(),
         _ => Query::Module(module),
     })
 }

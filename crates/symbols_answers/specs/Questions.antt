@@ -20,7 +20,30 @@ pub data QuestionView : Type 0 where
   query_leaves : SymbolId → QuestionView
   query_resolve : SymbolReference → QuestionView
 
+-- what is queried: the answer to a question, or its inputs, which are the specifiers that the answer rests on
+pub data QueryForm : Type 0 where
+  for_answer : QueryForm
+  for_inputs : QueryForm
+
 -- a question on the module that a specifier resolves to
 pub record QueryView : Type 0 where
   pub specifier : List ℕ
   pub question : QuestionView
+  pub form : QueryForm
+
+-- a question that has the same inputs: its own if it is on the module, its exports, the paths of a symbol, or a reference
+abbrev pub question_with_same_inputs : QuestionView → QuestionView
+question_with_same_inputs query_module = query_module
+question_with_same_inputs query_exports = query_exports
+question_with_same_inputs query_names = query_exports
+question_with_same_inputs (query_symbol name) = query_module
+question_with_same_inputs (query_name s) = query_module
+question_with_same_inputs (query_deps s mode) = query_module
+question_with_same_inputs (query_paths s) = query_paths s
+question_with_same_inputs (query_definitions s) = query_paths s
+question_with_same_inputs (query_leaves s) = query_paths s
+question_with_same_inputs (query_resolve reference) = query_resolve reference
+
+-- the query for the inputs of a query
+abbrev pub inputs_query : QueryView → QueryView
+inputs_query query = record { specifier = query.specifier; question = question_with_same_inputs query.question; form = for_inputs }

@@ -1,5 +1,5 @@
 -- The modules that are stored once a query is answered.
-use Rattle.std.specs.Prelude.{ℕ, List, [], ◌∷◌, ◌++◌, map, flat_map, All, Contains, Option, Some, None, IfSome}
+use Rattle.std.specs.Prelude.{◌≡◌, ℕ, List, [], ◌∷◌, ◌++◌, map, flat_map, All, Contains, Option, Some, None, IfSome}
 use Rattle.symbols_root.specs.Roots.{RootView}
 use Rattle.symbols_root.specs.TypesChains.{resolved_module_specifier}
 use Rattle.symbols_exports.specs.Chains.{IsReachedByStars}
@@ -9,9 +9,10 @@ use Rattle.symbols_exports.specs.ExportViews.{ExportView, StarStatementView}
 use Rattle.symbols_paths.specs.PathTrees.{DefinitionView, PathLeaf, definition, unresolved, PathTree, PathForest, leaf, link, no_trees, more_trees}
 use Rattle.symbols_paths.specs.DepAnswers.{DepEntryView, path_dep_entry, module_dep_entry}
 use Rattle.symbols_answers.specs.Questions.{QuestionView, query_module, query_exports, query_names, query_symbol, query_name}
-use Rattle.symbols_answers.specs.Questions.{query_deps, query_paths, query_definitions, query_leaves, query_resolve, QueryView}
+use Rattle.symbols_answers.specs.Questions.{query_deps, query_paths, query_definitions, query_leaves, query_resolve, QueryForm, for_answer, for_inputs, QueryView}
 use Rattle.symbols_answers.specs.Answers.{AnswerView, answer_no_module, answer_module, answer_exports, answer_names, answer_symbol}
-use Rattle.symbols_answers.specs.Answers.{answer_name, answer_deps, answer_paths, answer_definitions, answer_leaves, answer_resolve}
+use Rattle.symbols_answers.specs.Answers.{answer_name, answer_deps, answer_paths, answer_definitions, answer_leaves, answer_resolve, answer_inputs}
+use Rattle.symbols_answers.specs.QueryReach.{IsRequestedByQuery}
 
 -- ---- the modules that an answer names
 
@@ -52,7 +53,7 @@ abbrev pub modules_of_dep_entry : DepEntryView → List (List ℕ)
 modules_of_dep_entry (path_dep_entry t) = modules_of_path_tree t
 modules_of_dep_entry (module_dep_entry specifier) = specifier ∷ []
 
--- the modules that an answer names; public names, a symbol, a name and dependencies name none
+-- the modules that an answer names; public names, a symbol, a name, dependencies and inputs name none
 abbrev pub modules_of_answer : AnswerView → List (List ℕ)
 modules_of_answer answer_no_module = []
 modules_of_answer (answer_module specifier) = specifier ∷ []
@@ -66,29 +67,40 @@ modules_of_answer (answer_paths paths) = modules_of_path_forest paths
 modules_of_answer (answer_definitions definitions) = map module_of_definition_view definitions
 modules_of_answer (answer_leaves leaves) = map module_of_leaf leaves
 modules_of_answer (answer_resolve entries) = flat_map modules_of_dep_entry entries
+modules_of_answer (answer_inputs inputs) = []
 
 -- ---- what is stored
 
 -- whether the question is on the exports of a module: its exports, or its public names
-abbrev pub IsExportsQuestion : QuestionView → Type 0
-IsExportsQuestion query_module = ⊥
-IsExportsQuestion query_exports = Unit {0}
-IsExportsQuestion query_names = Unit {0}
-IsExportsQuestion (query_symbol name) = ⊥
-IsExportsQuestion (query_name s) = ⊥
-IsExportsQuestion (query_deps s mode) = ⊥
-IsExportsQuestion (query_paths s) = ⊥
-IsExportsQuestion (query_definitions s) = ⊥
-IsExportsQuestion (query_leaves s) = ⊥
-IsExportsQuestion (query_resolve reference) = ⊥
+abbrev pub IsExportsOrPublicNamesQuestion : QuestionView → Type 0
+IsExportsOrPublicNamesQuestion query_module = ⊥
+IsExportsOrPublicNamesQuestion query_exports = Unit {0}
+IsExportsOrPublicNamesQuestion query_names = Unit {0}
+IsExportsOrPublicNamesQuestion (query_symbol name) = ⊥
+IsExportsOrPublicNamesQuestion (query_name s) = ⊥
+IsExportsOrPublicNamesQuestion (query_deps s mode) = ⊥
+IsExportsOrPublicNamesQuestion (query_paths s) = ⊥
+IsExportsOrPublicNamesQuestion (query_definitions s) = ⊥
+IsExportsOrPublicNamesQuestion (query_leaves s) = ⊥
+IsExportsOrPublicNamesQuestion (query_resolve reference) = ⊥
 
 -- the queried module and all modules that the answer names are stored; for exports and public names also each module that is reached
 pub record AreAnswerModulesStored (root : RootView) (specifier : List ℕ) (question : QuestionView) (answer : AnswerView) : Type 0 where
-  pub queried : Contains root.stored specifier
-  pub reached : IsExportsQuestion question → (end : List ℕ) → IsReachedByStars (star_targets_of root.graph) specifier end → Contains root.stored end
-  pub named : All (Contains root.stored) (modules_of_answer answer)
+  pub is_queried_stored : Contains root.stored specifier
+  pub reached : IsExportsOrPublicNamesQuestion question → (end : List ℕ) → IsReachedByStars (star_targets_of root.graph) specifier end
+      → Contains root.stored end
+  pub are_named_stored : All (Contains root.stored) (modules_of_answer answer)
 
--- the same for a query, if its specifier resolves to a module
-abbrev pub AreQueryModulesStored : RootView → QueryView → AnswerView → Type 0
-AreQueryModulesStored root query answer =
+-- each module that a requested specifier resolves to is stored
+abbrev pub AreRequestedModulesStored : RootView → QueryView → Type 0
+AreRequestedModulesStored root query = (key v : List ℕ) → IsRequestedByQuery root.graph query key → resolved_module_specifier root.graph key ≡ Some v
+    → Contains root.stored v
+
+-- the same for a query: those of its answer, if its specifier resolves to a module; for its inputs those that it requests
+abbrev pub AreModulesStoredInForm : QueryForm → RootView → QueryView → AnswerView → Type 0
+AreModulesStoredInForm for_answer root query answer =
     IfSome (resolved_module_specifier root.graph query.specifier) (λ specifier. AreAnswerModulesStored root specifier query.question answer)
+AreModulesStoredInForm for_inputs root query answer = AreRequestedModulesStored root query
+
+abbrev pub AreQueryModulesStored : RootView → QueryView → AnswerView → Type 0
+AreQueryModulesStored root query answer = AreModulesStoredInForm query.form root query answer

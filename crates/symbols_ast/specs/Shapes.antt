@@ -41,20 +41,21 @@ needs_from_clause nodes (Kind.Item (Item.ExportSpecifier orig _)) = option_map_o
 needs_from_clause nodes _ = false
 
 -- A pattern with a default whose left is no identifier.
-abbrev pub is_destructuring_default : List Node → Kind → Bool
-is_destructuring_default nodes (Kind.Pat (Pat.AssignPat left _)) = not (option_map_or is_binding_ident (kind_at nodes left) false)
-is_destructuring_default nodes _ = false
+abbrev pub is_destructuring_with_default : List Node → Kind → Bool
+is_destructuring_with_default nodes (Kind.Pat (Pat.AssignPat left _)) = not (option_map_or is_binding_ident (kind_at nodes left) false)
+is_destructuring_with_default nodes _ = false
 
 -- The node breaks a rule of its own kind.
-abbrev pub breaks_kind_rule : List Node → Kind → Bool
-breaks_kind_rule nodes (Kind.Item (Item.ExportDefaultSpecifier _)) = true
-breaks_kind_rule nodes (Kind.Item (Item.ExportNamed specifiers None)) =
+abbrev pub breaks_rule_of_its_kind : List Node → Kind → Bool
+breaks_rule_of_its_kind nodes (Kind.Item (Item.ExportDefaultSpecifier _)) = true
+breaks_rule_of_its_kind nodes (Kind.Item (Item.ExportNamed specifiers None)) =
     list_any (λ n. option_map_or (needs_from_clause nodes) (kind_at nodes n) false) specifiers.items
-breaks_kind_rule nodes (Kind.Item (Item.TsImportEqualsDecl _ _ None None)) = true
-breaks_kind_rule nodes (Kind.Item (Item.TsImportEqualsDecl _ _ (Some _) (Some _))) = true
-breaks_kind_rule nodes (Kind.Member (Member.TsParamProp param _)) = option_map_or (is_destructuring_default nodes) (kind_at nodes param) false
-breaks_kind_rule nodes _ = false
+breaks_rule_of_its_kind nodes (Kind.Item (Item.TsImportEqualsDecl _ _ None None)) = true
+breaks_rule_of_its_kind nodes (Kind.Item (Item.TsImportEqualsDecl _ _ (Some _) (Some _))) = true
+breaks_rule_of_its_kind nodes (Kind.Member (Member.TsParamProp param _)) = option_map_or (is_destructuring_with_default nodes) (kind_at nodes param) false
+breaks_rule_of_its_kind nodes _ = false
 
 -- Node n has a bad shape.
-unfoldable pub has_bad_shape : List Node → ℕ → Bool
-has_bad_shape nodes n = option_map_or (λ kind. has_misplaced_child nodes kind || breaks_kind_rule nodes kind) (kind_at nodes n) false
+unfoldable pub has_misplaced_child_or_breaks_rule : List Node → ℕ → Bool
+has_misplaced_child_or_breaks_rule nodes n = option_map_or (λ kind. has_misplaced_child nodes kind || breaks_rule_of_its_kind nodes kind)
+    (kind_at nodes n) false

@@ -10,7 +10,7 @@ use Rattle.symbols_ast.specs.declared.tree.kinds.Item.TheVariants as Item
 use Rattle.symbols_ast.specs.declared.graph.faults.TreeFault.{TreeFault}
 use Rattle.symbols_ast.specs.declared.graph.faults.TreeFault.TheVariants.{NoProgram, TooManyNodes, BadChild, SharedChild, BadRange, BadShape, TooDeep}
 use Rattle.symbols_ast.specs.Nodes.{kind_at, children, HasAtLeastAncestors}
-use Rattle.symbols_ast.specs.Shapes.{has_bad_shape}
+use Rattle.symbols_ast.specs.Shapes.{has_misplaced_child_or_breaks_rule}
 
 abbrev pub is_program : Kind → Bool
 is_program (Kind.Item (Item.Program _)) = true
@@ -54,7 +54,7 @@ IsFaultOfTree text nodes TooManyNodes = 2 ^ 32 ≤ length nodes
 IsFaultOfTree text nodes (BadChild n) = HasBadChild nodes n
 IsFaultOfTree text nodes (SharedChild n) = HasSharedChild nodes n
 IsFaultOfTree text nodes (BadRange n) = HasBadRange text nodes n
-IsFaultOfTree text nodes (BadShape n) = has_bad_shape nodes n ≡ true
+IsFaultOfTree text nodes (BadShape n) = has_misplaced_child_or_breaks_rule nodes n ≡ true
 IsFaultOfTree text nodes (TooDeep n) = IsTooDeep nodes n
 
 -- The position of a fault in the order: those of the whole tree, then node by node.

@@ -9,19 +9,19 @@ use Rattle.symbols_ast.specs.declared.tree.kinds.Pat.{Pat}
 use Rattle.symbols_ast.specs.declared.tree.arena.Id.{Id}
 use Rattle.symbols_ast.specs.Ids.{id_view}
 use Rattle.symbols_ast.specs.NodeRefs.{TreeNode, kind_of}
-use Rattle.symbols_deps.specs.Annotations.{type_annotation_reading, pattern_annotation, has_type_annotation}
-use Rattle.symbols_nodes.specs.DottedNames.{DottedName, add_name_part, name_part_of_member_prop, member_expr_recursion_step, member_expr_name}
-use Rattle.symbols_nodes.specs.Readings.{node_of_greater_number, read_node_of_greater_number}
+use Rattle.symbols_deps.specs.Annotations.{type_annotation_recursion_step, pattern_annotation, has_type_annotation}
+use Rattle.symbols_nodes.specs.DottedNames.{DottedName, append_name_part, dotted_name_part_of_member_prop, member_expr_recursion_step, member_expr_name}
+use Rattle.symbols_nodes.specs.Readings.{node_of_greater_number, evaluate_node_of_greater_number}
 use Rattle.symbols_deps.specs.inner.KnownFacts.{may_be_reference}
 use Rattle.symbols_nodes.specs.References.{id, qualified_id_reference, reference_of_kind, reference_of_node}
-use Rattle.symbols_nodes.specs.laws.Readings.{recursive_read_unfolds}
+use Rattle.symbols_nodes.specs.laws.Readings.{recursive_evaluation_unfolds}
 
 none_mapped : {A B : Type 0} (f : A → B) (o : Option A) → is_some (option_map f o) ≡ false → o ≡ None
 none_mapped f None is = refl
 none_mapped f (Some x) is = absurd (let no : ⊥ = cc in no)
 
 part_occurs : (part : Option (List ℕ)) (name : Option DottedName) → is_some part ≡ true
-    → option_and_then (λ text. option_map (add_name_part text) name) part ≡ None
+    → option_and_then (λ text. option_map (append_name_part text) name) part ≡ None
     → name ≡ None
 part_occurs None name there is = absurd (let no : ⊥ = cc in no)
 part_occurs (Some text) None there is = refl
@@ -34,12 +34,13 @@ no_reference node obj prop is refers = none_mapped qualified_id_reference (membe
 
 -- If a member expression is no dotted name though its property may be a part of one, its object is no dotted name.
 pub object_unnamed : (node child : TreeNode) (obj prop : ℕ) → kind_of node ≡ Some (Kind.Expr (Expr.Member obj prop)) → is_some (reference_of_node node) ≡ false
-    → is_some (read_node_of_greater_number name_part_of_member_prop node prop) ≡ true
+    → is_some (evaluate_node_of_greater_number dotted_name_part_of_member_prop node prop) ≡ true
     → node_of_greater_number node obj ≡ Some child → member_expr_name child ≡ None
 object_unnamed node child obj prop is refers part below =
     let unnamed = no_reference node obj prop is refers in
-    let by_parts = rw is at (sym (recursive_read_unfolds member_expr_recursion_step node) ∙ unnamed) in
-    let none = part_occurs (read_node_of_greater_number name_part_of_member_prop node prop) (read_node_of_greater_number member_expr_name node obj) part
+    let by_parts = rw is at (sym (recursive_evaluation_unfolds member_expr_recursion_step node) ∙ unnamed) in
+    let none = part_occurs (evaluate_node_of_greater_number dotted_name_part_of_member_prop node prop)
+    (evaluate_node_of_greater_number member_expr_name node obj) part
     by_parts in
     rw below at none
 
@@ -48,7 +49,7 @@ pub left_annotated : (node child : TreeNode) (left right : ℕ) → kind_of node
     → node_of_greater_number node left ≡ Some child
     → has_type_annotation child ≡ has_type_annotation node
 left_annotated node child left right is below =
-    let same : pattern_annotation node ≡ pattern_annotation child = rw (is, below) at (recursive_read_unfolds type_annotation_reading node) in
+    let same : pattern_annotation node ≡ pattern_annotation child = rw (is, below) at (recursive_evaluation_unfolds type_annotation_recursion_step node) in
     ap is_some (sym same)
 
 is_none_if : {A : Type 0} (o : Option A) → false ≡ is_some o → o ≡ None

@@ -4,10 +4,12 @@ use Rattle.std.specs.Prelude.{Contains}
 use Rattle.symbols_nodes.specs.declared.deps.dep.ReferenceNamespace.{ReferenceNamespace}
 use Rattle.symbols_nodes.specs.declared.deps.dep.ResolveDepsMode.{ResolveDepsMode}
 use Rattle.symbols_nodes.specs.declared.deps.dep.ResolveDepsMode.TheVariants.{TypesAndExpressions}
-use Rattle.symbols_nodes.specs.References.{SymbolDependency}
-use Rattle.symbols_deps.specs.DepPaths.{ReferenceGraphVertex, ReferenceGraphStep, ReferenceGraph, IsPathFollowedInMode, ends, goes_on, IsDependency}
+use Rattle.symbols_nodes.specs.References.{NamespacedReference}
+use Rattle.symbols_deps.specs.DepPaths.{ReferenceGraphVertex, ReferenceGraphStep, ReferenceGraph, IsReferencePathFollowedInMode, ends}
+use Rattle.symbols_deps.specs.DepPaths.{first_step_followed_by_path, IsDependencyAtPath}
 use Rattle.symbols_deps.specs.DepPaths.{IsPathBefore, continues, lower_step, same_step}
-use Rattle.symbols_deps.specs.DepPaths.{DependencyOccurrence, AreInPathOrder, no_path, first_path, AreDependencies, IsSubsequence, nothing_left, keeps}
+use Rattle.symbols_deps.specs.DepPaths.{DependencyOccurrence, AreInPathOrder, no_path, first_path, AreAllDependencyOccurrencesInOrder, IsSubsequence}
+use Rattle.symbols_deps.specs.DepPaths.{nothing_left, keeps}
 use Rattle.symbols_deps.specs.DepPaths.{leaves_out}
 use Rattle.symbols_deps.proofs.PathLists.{contains_head, contains_tail, head_or_tail, contains_nothing}
 
@@ -69,26 +71,28 @@ subsequence_mapped f xs (y ∷ ys) (leaves_out rest) = leaves_out (subsequence_m
 -- ---- a step that is open in a mode is open with expressions
 
 open_with_expressions : (graph : ReferenceGraph) (mode : ResolveDepsMode) (steps : List ReferenceGraphStep) (path : List ℕ) (marks : List
-    (Option ReferenceNamespace)) (end : ReferenceGraphVertex) → IsPathFollowedInMode graph mode steps path marks end
-    → IsPathFollowedInMode graph TypesAndExpressions steps path marks end
+    (Option ReferenceNamespace)) (end : ReferenceGraphVertex) → IsReferencePathFollowedInMode graph mode steps path marks end
+    → IsReferencePathFollowedInMode graph TypesAndExpressions steps path marks end
 open_with_expressions graph mode steps [] marks end reaches = elim reaches [ ]
 open_with_expressions graph mode steps (i ∷ path) [] end reaches = elim reaches [ ]
 open_with_expressions graph mode steps (i ∷ path) (mark ∷ marks) end (ends step occurs opens) = ends step occurs refl
-open_with_expressions graph mode steps (i ∷ path) (mark ∷ marks) end (goes_on step occurs opens reaches) =
-    goes_on step occurs refl (open_with_expressions graph mode (graph.steps step.to) path marks end reaches)
+open_with_expressions graph mode steps (i ∷ path) (mark ∷ marks) end (first_step_followed_by_path step occurs opens reaches) =
+    first_step_followed_by_path step occurs refl (open_with_expressions graph mode (graph.steps step.to) path marks end reaches)
 
 occurs_with_expressions : (graph : ReferenceGraph) (mode : ResolveDepsMode) (namespace : ReferenceNamespace) (steps : List ReferenceGraphStep) (path : List ℕ)
-    (dependency : SymbolDependency) → IsDependency graph mode namespace steps path dependency
-    → IsDependency graph TypesAndExpressions namespace steps path dependency
+    (dependency : NamespacedReference) → IsDependencyAtPath graph mode namespace steps path dependency
+    → IsDependencyAtPath graph TypesAndExpressions namespace steps path dependency
 occurs_with_expressions graph mode namespace steps path dependency d =
     record { end = d.end; marks = d.marks; reaches = open_with_expressions graph mode steps path d.marks d.end d.reaches; refers = d.refers; marked = d.marked }
 
 pub fewer_among_all : (graph : ReferenceGraph) (mode : ResolveDepsMode) (namespace : ReferenceNamespace) (steps : List ReferenceGraphStep)
     (some all : List DependencyOccurrence)
-    → AreDependencies graph mode namespace steps some → AreDependencies graph TypesAndExpressions namespace steps all → IsSubsequence some all
+    → AreAllDependencyOccurrencesInOrder graph mode namespace steps some → AreAllDependencyOccurrencesInOrder graph TypesAndExpressions namespace steps all
+    → IsSubsequence some all
 fewer_among_all graph mode namespace steps some all few full =
     subsequence_by_order some all few.in_order full.in_order
-    (λ f has. full.none_missing f.path f.dependency (occurs_with_expressions graph mode namespace steps f.path f.dependency (few.none_else f has)))
+    (λ f has. full.has_every_dependency f.path f.dependency (occurs_with_expressions graph mode namespace steps f.path f.dependency
+    (few.are_all_dependencies f has)))
 
 -- ---- two such lists are equal
 
@@ -106,8 +110,10 @@ same_by_length xs (y ∷ ys) (leaves_out rest) long = let low = subsequence_leng
 
 pub same_lists : (graph : ReferenceGraph) (mode : ResolveDepsMode) (namespace : ReferenceNamespace) (steps : List ReferenceGraphStep)
     (these those : List DependencyOccurrence)
-    → AreDependencies graph mode namespace steps these → AreDependencies graph mode namespace steps those → these ≡ those
+    → AreAllDependencyOccurrencesInOrder graph mode namespace steps these → AreAllDependencyOccurrencesInOrder graph mode namespace steps those → these ≡ those
 same_lists graph mode namespace steps these those are too =
-    let one = subsequence_by_order these those are.in_order too.in_order (λ f has. too.none_missing f.path f.dependency (are.none_else f has)) in
-    let other = subsequence_by_order those these too.in_order are.in_order (λ f has. are.none_missing f.path f.dependency (too.none_else f has)) in
+    let one = subsequence_by_order these those are.in_order too.in_order (λ f has. too.has_every_dependency f.path f.dependency
+    (are.are_all_dependencies f has)) in
+    let other = subsequence_by_order those these too.in_order are.in_order (λ f has. are.has_every_dependency f.path f.dependency
+    (too.are_all_dependencies f has)) in
     same_by_length these those one (subsequence_length those these other)

@@ -13,13 +13,13 @@ use Rattle.symbols_ast.specs.NodeRefs.{TreeNode, kind_of}
 use Rattle.symbols_nodes.specs.declared.deps.dep.ReferenceNamespace.{ReferenceNamespace}
 use Rattle.symbols_nodes.specs.declared.deps.dep.SymbolNodeDep.{SymbolNodeDep}
 use Rattle.symbols_deps.specs.Annotations.{has_type_annotation}
-use Rattle.symbols_deps.specs.DepPaths.{ReferenceGraphVertex, ReferenceGraphStep, DependencyOccurrence, direct_occurrences, prepend_step, path_length_bound}
+use Rattle.symbols_deps.specs.DepPaths.{ReferenceGraphVertex, ReferenceGraphStep, DependencyOccurrence, occurrences_at_vertex, prepend_step, path_length_bound}
 use Rattle.symbols_deps.specs.Dependencies.{step_to_child_of_kind, step_along_edge, step_to_child, steps_of_edge}
-use Rattle.symbols_deps.specs.Dependencies.{steps_along_edges, steps_from_vertex_of_kind, steps_from, start_edge_steps, without_path}
+use Rattle.symbols_deps.specs.Dependencies.{steps_along_edges, steps_from_vertex_of_kind, steps_from, start_edge_steps, dependency_of_occurrence}
 use Rattle.symbols_deps.specs.EdgeRules.{FieldEdges}
 use Rattle.symbols_deps.specs.EdgeTable.{edges_from, start_edges_of_kind}
 use Rattle.symbols_nodes.specs.Readings.{node_of_greater_number}
-use Rattle.symbols_nodes.specs.References.{SymbolReference, SymbolDependency, reference_view, dependency_view, reference_of_node}
+use Rattle.symbols_nodes.specs.References.{SymbolReference, NamespacedReference, reference_view, namespaced_reference_view, reference_of_node}
 use Rattle.symbols_deps.specs.inner.References.{dependency_in_namespace}
 use Rattle.symbols_deps.proofs.PathLists.{some_injective}
 
@@ -128,15 +128,17 @@ first_steps_of_kind node kind is = rw is refl
 -- ---- lists of dependencies in the Rust code
 
 pub direct_listed_alone : (namespace : ReferenceNamespace) (reference : Option SymbolReference)
-    → map without_path (direct_occurrences namespace reference) ≡ option_to_list (option_map (dependency_in_namespace namespace) reference)
+    → map dependency_of_occurrence (occurrences_at_vertex namespace reference) ≡ option_to_list (option_map (dependency_in_namespace namespace) reference)
 direct_listed_alone namespace None = refl
 direct_listed_alone namespace (Some reference) = refl
 
 pub first_parts_view : (xs : List (SymbolNodeDep × ReferenceNamespace))
-    → map reference_view (map (λ (d : SymbolNodeDep × ReferenceNamespace). d.0) xs) ≡ map (λ (d : SymbolDependency). d.reference) (map dependency_view xs)
+    → map reference_view (map (λ (d : SymbolNodeDep × ReferenceNamespace). d.0) xs) ≡ map (λ (d : NamespacedReference). d.reference)
+    (map namespaced_reference_view xs)
 first_parts_view [] = refl
 first_parts_view (x ∷ xs) = ap (λ rest. reference_view x.0 ∷ rest) (first_parts_view xs)
 
-pub without_path_after_step : (i : ℕ) (xs : List DependencyOccurrence) → map without_path (map (prepend_step i) xs) ≡ map without_path xs
+pub without_path_after_step : (i : ℕ) (xs : List DependencyOccurrence) → map dependency_of_occurrence (map (prepend_step i) xs)
+    ≡ map dependency_of_occurrence xs
 without_path_after_step i [] = refl
 without_path_after_step i (x ∷ xs) = ap (λ rest. x.dependency ∷ rest) (without_path_after_step i xs)

@@ -6,7 +6,7 @@ use Rattle.symbols_ast.specs.NodeRefs.{TreeNode}
 use Rattle.symbols_nodes.specs.declared.deps.dep.ReferenceNamespace.{ReferenceNamespace}
 use Rattle.symbols_nodes.specs.declared.deps.dep.ResolveDepsMode.{ResolveDepsMode}
 use Rattle.symbols_deps.specs.declared.rules.PatternContext.{PatternContext}
-use Rattle.symbols_nodes.specs.References.{SymbolReference, SymbolDependency, visits_expressions}
+use Rattle.symbols_nodes.specs.References.{SymbolReference, NamespacedReference, visits_expressions}
 
 -- A node with the form in which an edge enters it.
 pub record ReferenceGraphVertex : Type 0 where
@@ -20,8 +20,8 @@ pub record ReferenceGraphStep : Type 0 where
   pub mark : Option ReferenceNamespace
   pub needs_expressions : Bool
 
-abbrev pub is_followed_in_mode : ResolveDepsMode → ReferenceGraphStep → Bool
-is_followed_in_mode mode step = visits_expressions mode || not step.needs_expressions
+abbrev pub is_step_followed_in_mode : ResolveDepsMode → ReferenceGraphStep → Bool
+is_step_followed_in_mode mode step = visits_expressions mode || not step.needs_expressions
 
 -- For each vertex its reference, if it is one, and its steps in order.
 pub record ReferenceGraph : Type 0 where
@@ -30,15 +30,17 @@ pub record ReferenceGraph : Type 0 where
 
 -- A path is a list of indices: the first of these steps, and each later step among those of the vertex before. Each step must be open in
 -- the mode. The path's marks and its end are further indices of the relation.
-pub data IsPathFollowedInMode (graph : ReferenceGraph) (mode : ResolveDepsMode) : List ReferenceGraphStep → List ℕ → List (Option ReferenceNamespace)
+pub data IsReferencePathFollowedInMode (graph : ReferenceGraph) (mode : ResolveDepsMode) : List ReferenceGraphStep → List ℕ → List (Option ReferenceNamespace)
     → ReferenceGraphVertex → Type 0 where
   ends : {steps : List ReferenceGraphStep} {i : ℕ} (step : ReferenceGraphStep)
-      → slice_get steps i ≡ Some step → is_followed_in_mode mode step ≡ true
-      → IsPathFollowedInMode graph mode steps (i ∷ []) (step.mark ∷ []) step.to
-  goes_on : {steps : List ReferenceGraphStep} {i : ℕ} {path : List ℕ} {marks : List (Option ReferenceNamespace)} {end : ReferenceGraphVertex}
+      → slice_get steps i ≡ Some step → is_step_followed_in_mode mode step ≡ true
+      → IsReferencePathFollowedInMode graph mode steps (i ∷ []) (step.mark ∷ []) step.to
+  first_step_followed_by_path : {steps : List ReferenceGraphStep} {i : ℕ} {path : List ℕ} {marks : List (Option ReferenceNamespace)}
+      {end : ReferenceGraphVertex}
       (step : ReferenceGraphStep)
-      → slice_get steps i ≡ Some step → is_followed_in_mode mode step ≡ true → IsPathFollowedInMode graph mode (graph.steps step.to) path marks end
-      → IsPathFollowedInMode graph mode steps (i ∷ path) (step.mark ∷ marks) end
+      → slice_get steps i ≡ Some step → is_step_followed_in_mode mode step ≡ true → IsReferencePathFollowedInMode graph mode
+      (graph.steps step.to) path marks end
+      → IsReferencePathFollowedInMode graph mode steps (i ∷ path) (step.mark ∷ marks) end
 
 -- The namespace of the last step with a mark; the given namespace if no step has one.
 abbrev pub last_marked_namespace : ReferenceNamespace → List (Option ReferenceNamespace) → ReferenceNamespace
@@ -46,11 +48,11 @@ last_marked_namespace namespace [] = namespace
 last_marked_namespace namespace (mark ∷ marks) = last_marked_namespace (unwrap_or mark namespace) marks
 
 -- An open path leads from these steps to the reference. Its namespace is the last mark on the path, else the given namespace.
-pub record IsDependency (graph : ReferenceGraph) (mode : ResolveDepsMode) (namespace : ReferenceNamespace) (steps : List ReferenceGraphStep) (path : List
-    ℕ) (dependency : SymbolDependency) : Type 0 where
+pub record IsDependencyAtPath (graph : ReferenceGraph) (mode : ResolveDepsMode) (namespace : ReferenceNamespace) (steps : List ReferenceGraphStep) (path : List
+    ℕ) (dependency : NamespacedReference) : Type 0 where
   pub end : ReferenceGraphVertex
   pub marks : List (Option ReferenceNamespace)
-  pub reaches : IsPathFollowedInMode graph mode steps path marks end
+  pub reaches : IsReferencePathFollowedInMode graph mode steps path marks end
   pub refers : graph.reference end ≡ Some dependency.reference
   pub marked : dependency.namespace ≡ last_marked_namespace namespace marks
 
@@ -63,7 +65,7 @@ pub data IsPathBefore : List ℕ → List ℕ → Type 0 where
 -- A dependency, and the path that leads to it.
 pub record DependencyOccurrence : Type 0 where
   pub path : List ℕ
-  pub dependency : SymbolDependency
+  pub dependency : NamespacedReference
 
 -- Each path is before the paths of all later dependencies.
 pub data AreInPathOrder : List DependencyOccurrence → Type 0 where
@@ -73,19 +75,20 @@ pub data AreInPathOrder : List DependencyOccurrence → Type 0 where
       → AreInPathOrder rest → AreInPathOrder (found ∷ rest)
 
 -- The list has exactly the dependencies on paths that begin with these steps, in the order of the paths.
-pub record AreDependencies (graph : ReferenceGraph) (mode : ResolveDepsMode) (namespace : ReferenceNamespace) (steps : List ReferenceGraphStep) (all : List
+pub record AreAllDependencyOccurrencesInOrder (graph : ReferenceGraph) (mode : ResolveDepsMode) (namespace : ReferenceNamespace)
+    (steps : List ReferenceGraphStep) (all : List
     DependencyOccurrence) : Type 0 where
-  pub none_else : (found : DependencyOccurrence) → Contains all found → IsDependency graph mode namespace steps found.path found.dependency
-  pub none_missing : (path : List ℕ) (dependency : SymbolDependency) → IsDependency graph mode namespace steps path dependency
+  pub are_all_dependencies : (found : DependencyOccurrence) → Contains all found → IsDependencyAtPath graph mode namespace steps found.path found.dependency
+  pub has_every_dependency : (path : List ℕ) (dependency : NamespacedReference) → IsDependencyAtPath graph mode namespace steps path dependency
       → Contains all (record { path = path; dependency = dependency })
   pub in_order : AreInPathOrder all
 
 -- ---- the list as a function that computes it
 
 -- The dependency of the vertex itself, on the empty path.
-abbrev pub direct_occurrences : ReferenceNamespace → Option SymbolReference → List DependencyOccurrence
-direct_occurrences namespace None = []
-direct_occurrences namespace (Some reference) = record { path = []; dependency = record { reference = reference; namespace = namespace } } ∷ []
+abbrev pub occurrences_at_vertex : ReferenceNamespace → Option SymbolReference → List DependencyOccurrence
+occurrences_at_vertex namespace None = []
+occurrences_at_vertex namespace (Some reference) = record { path = []; dependency = record { reference = reference; namespace = namespace } } ∷ []
 
 -- The path with one more step at its front.
 abbrev pub prepend_step : ℕ → DependencyOccurrence → DependencyOccurrence
@@ -96,14 +99,14 @@ abbrev pub occurrences_after_steps : ResolveDepsMode → (ReferenceNamespace →
     → List ReferenceGraphStep → List DependencyOccurrence
 occurrences_after_steps mode inner namespace i [] = []
 occurrences_after_steps mode inner namespace i (step ∷ steps) =
-    (if is_followed_in_mode mode step then map (prepend_step i) (inner (unwrap_or step.mark namespace) step.to) else [])
+    (if is_step_followed_in_mode mode step then map (prepend_step i) (inner (unwrap_or step.mark namespace) step.to) else [])
     ++ occurrences_after_steps mode inner namespace (i + 1) steps
 
 -- The dependencies on paths of a bounded number of steps.
 unfoldable pub occurrences_within : ReferenceGraph → ResolveDepsMode → ℕ → ReferenceNamespace → List ReferenceGraphStep → List DependencyOccurrence
 occurrences_within graph mode zero namespace steps = []
 occurrences_within graph mode (suc levels) namespace steps =
-    occurrences_after_steps mode (λ marked vertex. direct_occurrences marked (graph.reference vertex)
+    occurrences_after_steps mode (λ marked vertex. occurrences_at_vertex marked (graph.reference vertex)
     ++ occurrences_within graph mode levels marked (graph.steps vertex)) namespace 0 steps
 
 -- A bound on the length of paths that begin with these steps: each step enters a node of a greater number.

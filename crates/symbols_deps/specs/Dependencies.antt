@@ -19,7 +19,8 @@ use Rattle.symbols_deps.specs.declared.rules.PatternContextRule.{PatternContextR
 use Rattle.symbols_deps.specs.declared.rules.NamespaceRule.{NamespaceRule}
 use Rattle.symbols_deps.specs.declared.rules.EdgeGuard.{EdgeGuard}
 use Rattle.symbols_deps.specs.Annotations.{has_type_annotation}
-use Rattle.symbols_deps.specs.DepPaths.{ReferenceGraphVertex, ReferenceGraphStep, ReferenceGraph, DependencyOccurrence, AreDependencies, occurrences_within}
+use Rattle.symbols_deps.specs.DepPaths.{ReferenceGraphVertex, ReferenceGraphStep, ReferenceGraph, DependencyOccurrence, AreAllDependencyOccurrencesInOrder}
+use Rattle.symbols_deps.specs.DepPaths.{occurrences_within}
 use Rattle.symbols_deps.specs.DepPaths.{path_length_bound}
 use Rattle.symbols_deps.specs.EdgeRules.{FieldEdges}
 use Rattle.symbols_deps.specs.EdgeTable.{edges_from, start_edges_of_kind, is_type_assertion}
@@ -29,7 +30,7 @@ use Rattle.symbols_nodes.specs.NodeViews.{class_decl, fn_decl, ts_enum, ts_inter
 use Rattle.symbols_nodes.specs.NodeViews.{class_prop, class_param_prop, constructor, expando_property, ts_index_signature, ts_call_signature_decl}
 use Rattle.symbols_nodes.specs.NodeViews.{ts_construct_signature_decl, ts_property_signature, ts_getter_signature, ts_setter_signature, ts_method_signature}
 use Rattle.symbols_nodes.specs.Readings.{node_of_greater_number}
-use Rattle.symbols_nodes.specs.References.{SymbolDependency, reference_of_node}
+use Rattle.symbols_nodes.specs.References.{NamespacedReference, reference_of_node}
 
 -- ---- the steps from a node
 
@@ -63,21 +64,21 @@ edge_namespace NamespaceRule.ValueIfComputed kind = value_namespace_if (is_compu
 edge_namespace NamespaceRule.ByKind kind = if allows Category.Type (kind_name kind) then Some In.Type else value_namespace_if (is_computed_key kind)
 
 -- The edge to a child of this kind is followed only in the mode with expressions.
-abbrev pub guard_needs_expressions : EdgeGuard → Kind → Bool
-guard_needs_expressions EdgeGuard.Open kind = false
-guard_needs_expressions EdgeGuard.Expressions kind = true
-guard_needs_expressions EdgeGuard.Initializer kind = if is_type_assertion kind then false else true
+abbrev pub is_guard_for_expressions_mode : EdgeGuard → Kind → Bool
+is_guard_for_expressions_mode EdgeGuard.Open kind = false
+is_guard_for_expressions_mode EdgeGuard.Expressions kind = true
+is_guard_for_expressions_mode EdgeGuard.Initializer kind = if is_type_assertion kind then false else true
 
-abbrev pub vertex_of : TreeNode → PatternContext → ReferenceGraphVertex
-vertex_of node form = record { node = node; form = form }
+abbrev pub vertex_of_node : TreeNode → PatternContext → ReferenceGraphVertex
+vertex_of_node node form = record { node = node; form = form }
 
 abbrev pub step_to_child_of_kind : FieldEdges → TreeNode → Kind → ReferenceGraphStep
 step_to_child_of_kind edge child kind =
     record {
-      to = vertex_of child (pattern_context_of edge.rules.form kind);
+      to = vertex_of_node child (pattern_context_of edge.rules.form kind);
       mark = edge_namespace edge.rules.mark kind;
       needs_expressions =
-          guard_needs_expressions edge.rules.guard kind;
+          is_guard_for_expressions_mode edge.rules.guard kind;
     }
 
 abbrev pub step_along_edge : FieldEdges → TreeNode → Option ReferenceGraphStep
@@ -106,7 +107,7 @@ reference_graph = record { reference = λ vertex. reference_of_node vertex.node;
 -- ---- where the visit begins
 
 abbrev pub steps_from_node : TreeNode → List ReferenceGraphStep
-steps_from_node node = steps_from (vertex_of node PatternContext.Usual)
+steps_from_node node = steps_from (vertex_of_node node PatternContext.Usual)
 
 abbrev pub steps_from_child_in_field : (Kind → Option ℕ) → TreeNode → List ReferenceGraphStep
 steps_from_child_in_field field node = option_map_or steps_from_node (child_in_field node field) []
@@ -165,23 +166,23 @@ start_steps_of_decl (ts_method_signature node) = steps_from_node node
 
 -- ---- the list of a declaration
 
-abbrev pub without_path : DependencyOccurrence → SymbolDependency
-without_path found = found.dependency
+abbrev pub dependency_of_occurrence : DependencyOccurrence → NamespacedReference
+dependency_of_occurrence found = found.dependency
 
 -- The list has exactly the dependencies on paths that begin with these steps, in the order of the paths. The namespace is the last mark's,
 -- else the value namespace.
-pub record IsDependencyList (mode : ResolveDepsMode) (first : List ReferenceGraphStep) (list : List SymbolDependency) : Type 0 where
+pub record IsDependencyList (mode : ResolveDepsMode) (first : List ReferenceGraphStep) (list : List NamespacedReference) : Type 0 where
   pub all : List DependencyOccurrence
-  pub are : AreDependencies reference_graph mode In.Value first all
-  pub listed : list ≡ map without_path all
+  pub are : AreAllDependencyOccurrencesInOrder reference_graph mode In.Value first all
+  pub listed : list ≡ map dependency_of_occurrence all
 
 -- The same list as a function: no path has more steps than the tree has levels.
-unfoldable pub dependencies_from_steps : ResolveDepsMode → List ReferenceGraphStep → List SymbolDependency
-dependencies_from_steps mode first = map without_path (occurrences_within reference_graph mode (path_length_bound first) In.Value first)
+unfoldable pub dependencies_from_steps : ResolveDepsMode → List ReferenceGraphStep → List NamespacedReference
+dependencies_from_steps mode first = map dependency_of_occurrence (occurrences_within reference_graph mode (path_length_bound first) In.Value first)
 
 -- The dependencies of a declaration.
-abbrev pub dependencies : ResolveDepsMode → SymbolNodeView → List SymbolDependency
+abbrev pub dependencies : ResolveDepsMode → SymbolNodeView → List NamespacedReference
 dependencies mode node = dependencies_from_steps mode (start_steps_of_decl node)
 
-abbrev pub dependencies_of_exported_decl : ResolveDepsMode → ExportDeclView → List SymbolDependency
+abbrev pub dependencies_of_exported_decl : ResolveDepsMode → ExportDeclView → List NamespacedReference
 dependencies_of_exported_decl mode exported = dependencies_from_steps mode (steps_of_exported_decl exported)

@@ -20,27 +20,27 @@ with_namespace_rule mark rules = record rules { mark = mark }
 abbrev pub with_guard : EdgeGuard → EdgeRuleSet → EdgeRuleSet
 with_guard guard rules = record rules { guard = guard }
 
-abbrev pub edge_rules_with_namespace_mark : ReferenceNamespace → EdgeRuleSet
-edge_rules_with_namespace_mark namespace = with_namespace_rule (NamespaceRule.Marked namespace) default_edge_rules
+abbrev pub edge_rules_marking_namespace : ReferenceNamespace → EdgeRuleSet
+edge_rules_marking_namespace namespace = with_namespace_rule (NamespaceRule.Marked namespace) default_edge_rules
 
 -- The edges of one field, with the rules that they share.
 pub record FieldEdges : Type 0 where
   pub rules : EdgeRuleSet
   pub children : List ℕ
 
-abbrev pub edges_to_each : EdgeRuleSet → List ℕ → FieldEdges
-edges_to_each rules children = record { rules = rules; children = children }
+abbrev pub edges_to_children : EdgeRuleSet → List ℕ → FieldEdges
+edges_to_children rules children = record { rules = rules; children = children }
 
 abbrev pub edge_to_child : EdgeRuleSet → ℕ → FieldEdges
-edge_to_child rules child = edges_to_each rules (child ∷ [])
+edge_to_child rules child = edges_to_children rules (child ∷ [])
 
-abbrev pub edge_to_optional : EdgeRuleSet → Option ℕ → FieldEdges
-edge_to_optional rules child = edges_to_each rules (option_to_list child)
+abbrev pub edge_to_optional_child : EdgeRuleSet → Option ℕ → FieldEdges
+edge_to_optional_child rules child = edges_to_children rules (option_to_list child)
 
 -- An edge to the child if the condition holds, else none.
 abbrev pub edge_to_child_if : Bool → EdgeRuleSet → ℕ → FieldEdges
-edge_to_child_if condition rules child = edge_to_optional rules (if condition then Some child else None)
+edge_to_child_if condition rules child = edge_to_optional_child rules (if condition then Some child else None)
 
 -- An edge to the initializer of a pattern or a property; none if that has a type annotation.
 abbrev pub edge_to_initializer : Bool → Option ℕ → FieldEdges
-edge_to_initializer annotated value = edge_to_optional (with_guard EdgeGuard.Initializer default_edge_rules) (if annotated then None else value)
+edge_to_initializer annotated value = edge_to_optional_child (with_guard EdgeGuard.Initializer default_edge_rules) (if annotated then None else value)

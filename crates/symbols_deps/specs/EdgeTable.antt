@@ -16,9 +16,9 @@ use Rattle.symbols_deps.specs.declared.rules.NamespaceRule.{NamespaceRule}
 use Rattle.symbols_deps.specs.declared.rules.EdgeGuard.{EdgeGuard}
 use Rattle.symbols_deps.specs.declared.rules.EdgeRuleSet.{EdgeRuleSet}
 use Rattle.symbols_deps.specs.Annotations.{is_child_pattern_annotated}
-use Rattle.symbols_deps.specs.EdgeRules.{FieldEdges, default_edge_rules, with_pattern_context, with_namespace_rule, with_guard, edge_rules_with_namespace_mark}
-use Rattle.symbols_deps.specs.EdgeRules.{edges_to_each, edge_to_child, edge_to_optional, edge_to_child_if, edge_to_initializer}
-use Rattle.symbols_nodes.specs.Readings.{read_node_of_greater_number}
+use Rattle.symbols_deps.specs.EdgeRules.{FieldEdges, default_edge_rules, with_pattern_context, with_namespace_rule, with_guard, edge_rules_marking_namespace}
+use Rattle.symbols_deps.specs.EdgeRules.{edges_to_children, edge_to_child, edge_to_optional_child, edge_to_child_if, edge_to_initializer}
+use Rattle.symbols_nodes.specs.Readings.{evaluate_node_of_greater_number}
 
 abbrev pub signature_edge_rules : EdgeRuleSet
 signature_edge_rules = with_pattern_context PatternContextRule.Signature default_edge_rules
@@ -29,7 +29,7 @@ property_key_edge_rules = with_namespace_rule NamespaceRule.ValueIfComputed defa
 
 -- The key of a property or a method of an interface, if it is in brackets.
 abbrev pub edge_to_computed_key : Bool → ℕ → FieldEdges
-edge_to_computed_key computed key = edge_to_child_if computed (edge_rules_with_namespace_mark In.Value) key
+edge_to_computed_key computed key = edge_to_child_if computed (edge_rules_marking_namespace In.Value) key
 
 abbrev pub item_edges : Item → List FieldEdges
 item_edges (Item.Program _) = []
@@ -51,24 +51,26 @@ item_edges (Item.ExprStmt expr) = edge_to_child default_edge_rules expr ∷ []
 
 abbrev pub decl_edges : TreeNode → Decl → List FieldEdges
 decl_edges node (Decl.ClassDecl ident class) = edge_to_child default_edge_rules ident ∷ edge_to_child default_edge_rules class ∷ []
-decl_edges node (Decl.ClassExpr ident class) = edge_to_optional default_edge_rules ident ∷ edge_to_child default_edge_rules class ∷ []
+decl_edges node (Decl.ClassExpr ident class) = edge_to_optional_child default_edge_rules ident ∷ edge_to_child default_edge_rules class ∷ []
 decl_edges node (Decl.Class type_params super_class super_type_params implements _) =
-    edge_to_optional default_edge_rules type_params ∷ edge_to_optional default_edge_rules super_class ∷ edge_to_optional default_edge_rules super_type_params
-    ∷ edges_to_each default_edge_rules implements.items
+    edge_to_optional_child default_edge_rules type_params ∷ edge_to_optional_child default_edge_rules super_class
+    ∷ edge_to_optional_child default_edge_rules super_type_params
+    ∷ edges_to_children default_edge_rules implements.items
     ∷ []
 decl_edges node (Decl.FnDecl ident function) = edge_to_child default_edge_rules ident ∷ edge_to_child default_edge_rules function ∷ []
-decl_edges node (Decl.FnExpr ident function) = edge_to_optional default_edge_rules ident ∷ edge_to_child default_edge_rules function ∷ []
+decl_edges node (Decl.FnExpr ident function) = edge_to_optional_child default_edge_rules ident ∷ edge_to_child default_edge_rules function ∷ []
 decl_edges node (Decl.Function type_params params return_type _) =
-    edge_to_optional default_edge_rules type_params ∷ edges_to_each default_edge_rules params.items ∷ edge_to_optional default_edge_rules return_type ∷ []
-decl_edges node (Decl.VarDecl decls) = edges_to_each default_edge_rules decls.items ∷ []
-decl_edges node (Decl.UsingDecl decls) = edges_to_each default_edge_rules decls.items ∷ []
+    edge_to_optional_child default_edge_rules type_params ∷ edges_to_children default_edge_rules params.items
+    ∷ edge_to_optional_child default_edge_rules return_type ∷ []
+decl_edges node (Decl.VarDecl decls) = edges_to_children default_edge_rules decls.items ∷ []
+decl_edges node (Decl.UsingDecl decls) = edges_to_children default_edge_rules decls.items ∷ []
 decl_edges node (Decl.VarDeclarator name init) = edge_to_child default_edge_rules name ∷ edge_to_initializer (is_child_pattern_annotated node name) init ∷ []
-decl_edges node (Decl.TsInterfaceDecl _ type_params extends _) = edge_to_optional default_edge_rules type_params
-    ∷ edges_to_each default_edge_rules extends.items ∷ []
-decl_edges node (Decl.TsTypeAliasDecl _ type_params type_ann) = edge_to_optional default_edge_rules type_params
-    ∷ edge_to_child (edge_rules_with_namespace_mark In.Type) type_ann ∷ []
-decl_edges node (Decl.TsEnumDecl _ members) = edges_to_each default_edge_rules members.items ∷ []
-decl_edges node (Decl.TsEnumMember init) = edge_to_optional default_edge_rules init ∷ []
+decl_edges node (Decl.TsInterfaceDecl _ type_params extends _) = edge_to_optional_child default_edge_rules type_params
+    ∷ edges_to_children default_edge_rules extends.items ∷ []
+decl_edges node (Decl.TsTypeAliasDecl _ type_params type_ann) = edge_to_optional_child default_edge_rules type_params
+    ∷ edge_to_child (edge_rules_marking_namespace In.Type) type_ann ∷ []
+decl_edges node (Decl.TsEnumDecl _ members) = edges_to_children default_edge_rules members.items ∷ []
+decl_edges node (Decl.TsEnumMember init) = edge_to_optional_child default_edge_rules init ∷ []
 decl_edges node (Decl.TsModuleDecl _ _ _) = []
 decl_edges node (Decl.TsNamespaceDecl _ _) = []
 decl_edges node (Decl.TsModuleBlock _) = []
@@ -79,32 +81,36 @@ member_edges (Member.TsParamProp param _) = edge_to_child (with_pattern_context 
 member_edges (Member.ClassMethod _ _ _ _ _) = []
 member_edges (Member.ClassProp _ _ _ _ _) = []
 member_edges (Member.AutoAccessor _ _ _ _ _) = []
-member_edges (Member.TsIndexSignature params type_ann _) = edges_to_each signature_edge_rules params.items ∷ edge_to_optional default_edge_rules type_ann ∷ []
+member_edges (Member.TsIndexSignature params type_ann _) = edges_to_children signature_edge_rules params.items
+    ∷ edge_to_optional_child default_edge_rules type_ann ∷ []
 member_edges (Member.TsCallSignatureDecl type_params params type_ann) =
-    edge_to_optional default_edge_rules type_params ∷ edges_to_each signature_edge_rules params.items ∷ edge_to_optional default_edge_rules type_ann ∷ []
+    edge_to_optional_child default_edge_rules type_params ∷ edges_to_children signature_edge_rules params.items
+    ∷ edge_to_optional_child default_edge_rules type_ann ∷ []
 member_edges (Member.TsConstructSignatureDecl type_params params type_ann) =
-    edge_to_optional default_edge_rules type_params ∷ edges_to_each signature_edge_rules params.items ∷ edge_to_optional default_edge_rules type_ann ∷ []
-member_edges (Member.TsPropertySignature key computed type_ann) = edge_to_computed_key computed key ∷ edge_to_optional default_edge_rules type_ann ∷ []
-member_edges (Member.TsGetterSignature key computed type_ann) = edge_to_computed_key computed key ∷ edge_to_optional default_edge_rules type_ann ∷ []
+    edge_to_optional_child default_edge_rules type_params ∷ edges_to_children signature_edge_rules params.items
+    ∷ edge_to_optional_child default_edge_rules type_ann ∷ []
+member_edges (Member.TsPropertySignature key computed type_ann) = edge_to_computed_key computed key ∷ edge_to_optional_child default_edge_rules type_ann ∷ []
+member_edges (Member.TsGetterSignature key computed type_ann) = edge_to_computed_key computed key ∷ edge_to_optional_child default_edge_rules type_ann ∷ []
 member_edges (Member.TsSetterSignature key computed param) = edge_to_computed_key computed key ∷ edge_to_child signature_edge_rules param ∷ []
 member_edges (Member.TsMethodSignature key computed type_params params type_ann) =
-    edge_to_computed_key computed key ∷ edge_to_optional default_edge_rules type_params ∷ edges_to_each signature_edge_rules params.items
-    ∷ edge_to_optional default_edge_rules type_ann ∷ []
+    edge_to_computed_key computed key ∷ edge_to_optional_child default_edge_rules type_params ∷ edges_to_children signature_edge_rules params.items
+    ∷ edge_to_optional_child default_edge_rules type_ann ∷ []
 
 abbrev pub ty_edges : Ty → List FieldEdges
-ty_edges (Ty.TsTypeParamDecl params) = edges_to_each default_edge_rules params.items ∷ []
-ty_edges (Ty.TsTypeParam constraint default) = edge_to_optional (edge_rules_with_namespace_mark In.Type) constraint
-    ∷ edge_to_optional (edge_rules_with_namespace_mark In.Type) default ∷ []
-ty_edges (Ty.TsTypeParamInstantiation params) = edges_to_each (edge_rules_with_namespace_mark In.Type) params.items ∷ []
-ty_edges (Ty.TsTypeAnn ty) = edge_to_child (edge_rules_with_namespace_mark In.Type) ty ∷ []
-ty_edges (Ty.TsExprWithTypeArgs expr type_args) = edge_to_optional default_edge_rules type_args ∷ edge_to_child (edge_rules_with_namespace_mark In.Both) expr
+ty_edges (Ty.TsTypeParamDecl params) = edges_to_children default_edge_rules params.items ∷ []
+ty_edges (Ty.TsTypeParam constraint default) = edge_to_optional_child (edge_rules_marking_namespace In.Type) constraint
+    ∷ edge_to_optional_child (edge_rules_marking_namespace In.Type) default ∷ []
+ty_edges (Ty.TsTypeParamInstantiation params) = edges_to_children (edge_rules_marking_namespace In.Type) params.items ∷ []
+ty_edges (Ty.TsTypeAnn ty) = edge_to_child (edge_rules_marking_namespace In.Type) ty ∷ []
+ty_edges (Ty.TsExprWithTypeArgs expr type_args) = edge_to_optional_child default_edge_rules type_args ∷ edge_to_child
+    (edge_rules_marking_namespace In.Both) expr
     ∷ []
-ty_edges (Ty.TsAsExpr _ ty) = edge_to_child (edge_rules_with_namespace_mark In.Type) ty ∷ []
-ty_edges (Ty.TsTypeAssertion _ ty) = edge_to_child (edge_rules_with_namespace_mark In.Type) ty ∷ []
-ty_edges (Ty.TsTypeQuery expr_name type_args) = edge_to_child (edge_rules_with_namespace_mark In.Value) expr_name
-    ∷ edge_to_optional default_edge_rules type_args ∷ []
-ty_edges (Ty.TsImportType _ _ type_args) = edge_to_optional default_edge_rules type_args ∷ []
-ty_edges (Ty.TsTupleElement _ ty) = edge_to_child (edge_rules_with_namespace_mark In.Type) ty ∷ []
+ty_edges (Ty.TsAsExpr _ ty) = edge_to_child (edge_rules_marking_namespace In.Type) ty ∷ []
+ty_edges (Ty.TsTypeAssertion _ ty) = edge_to_child (edge_rules_marking_namespace In.Type) ty ∷ []
+ty_edges (Ty.TsTypeQuery expr_name type_args) = edge_to_child (edge_rules_marking_namespace In.Value) expr_name
+    ∷ edge_to_optional_child default_edge_rules type_args ∷ []
+ty_edges (Ty.TsImportType _ _ type_args) = edge_to_optional_child default_edge_rules type_args ∷ []
+ty_edges (Ty.TsTupleElement _ ty) = edge_to_child (edge_rules_marking_namespace In.Type) ty ∷ []
 ty_edges (Ty.TsQualifiedName _ _) = []
 
 -- The edges of an expression. `refers` says that the node is a reference itself.
@@ -119,32 +125,35 @@ expr_edges refers (Expr.BigInt _) = []
 expr_edges refers (Expr.Computed expr) = edge_to_child default_edge_rules expr ∷ []
 expr_edges refers (Expr.Assign _ left right) = edge_to_child default_edge_rules left ∷ edge_to_child default_edge_rules right ∷ []
 expr_edges refers (Expr.Arrow type_params params return_type is_block body) =
-    edge_to_optional default_edge_rules type_params ∷ edges_to_each default_edge_rules params.items ∷ edge_to_optional default_edge_rules return_type
+    edge_to_optional_child default_edge_rules type_params ∷ edges_to_children default_edge_rules params.items
+    ∷ edge_to_optional_child default_edge_rules return_type
     ∷ edge_to_child_if (not (is_block || is_some return_type)) default_edge_rules body ∷ []
 
 -- The edges of a pattern. `annotated` says that the pattern has a type annotation.
 abbrev pub pat_edges : Bool → Pat → List FieldEdges
-pat_edges annotated (Pat.BindingIdent _ type_ann) = edge_to_optional default_edge_rules type_ann ∷ []
-pat_edges annotated (Pat.ArrayPat _ type_ann) = edge_to_optional default_edge_rules type_ann ∷ []
-pat_edges annotated (Pat.ObjectPat _ type_ann) = edge_to_optional default_edge_rules type_ann ∷ []
-pat_edges annotated (Pat.RestPat _ type_ann) = edge_to_optional default_edge_rules type_ann ∷ []
+pat_edges annotated (Pat.BindingIdent _ type_ann) = edge_to_optional_child default_edge_rules type_ann ∷ []
+pat_edges annotated (Pat.ArrayPat _ type_ann) = edge_to_optional_child default_edge_rules type_ann ∷ []
+pat_edges annotated (Pat.ObjectPat _ type_ann) = edge_to_optional_child default_edge_rules type_ann ∷ []
+pat_edges annotated (Pat.RestPat _ type_ann) = edge_to_optional_child default_edge_rules type_ann ∷ []
 pat_edges annotated (Pat.KeyValuePatProp key value) = edge_to_child property_key_edge_rules key ∷ edge_to_child default_edge_rules value ∷ []
-pat_edges annotated (Pat.AssignPatProp key value) = edge_to_child default_edge_rules key ∷ edge_to_optional default_edge_rules value ∷ []
+pat_edges annotated (Pat.AssignPatProp key value) = edge_to_child default_edge_rules key ∷ edge_to_optional_child default_edge_rules value ∷ []
 pat_edges annotated (Pat.AssignPat left right) = edge_to_child default_edge_rules left ∷ edge_to_initializer annotated (Some right) ∷ []
 pat_edges annotated (Pat.ExprPat expr) = edge_to_child (with_guard EdgeGuard.Expressions default_edge_rules) expr ∷ []
 pat_edges annotated (Pat.Plain children) =
-    edges_to_each (with_pattern_context PatternContextRule.SignatureKinds (with_namespace_rule NamespaceRule.ByKind default_edge_rules)) children.items ∷ []
-pat_edges annotated (Pat.Other children) = edges_to_each (with_namespace_rule NamespaceRule.ByKind default_edge_rules) children.items ∷ []
+    edges_to_children (with_pattern_context PatternContextRule.SignatureKinds (with_namespace_rule NamespaceRule.ByKind default_edge_rules)) children.items ∷ []
+pat_edges annotated (Pat.Other children) = edges_to_children (with_namespace_rule NamespaceRule.ByKind default_edge_rules) children.items ∷ []
 
 -- ---- edges in other forms
 
 -- The edges of a pattern in a signature.
 abbrev pub signature_pattern_edges : Bool → Pat → List FieldEdges
-signature_pattern_edges annotated (Pat.ArrayPat elems type_ann) = edges_to_each default_edge_rules elems.items ∷ edge_to_optional default_edge_rules type_ann
+signature_pattern_edges annotated (Pat.ArrayPat elems type_ann) = edges_to_children default_edge_rules elems.items
+    ∷ edge_to_optional_child default_edge_rules type_ann
     ∷ []
 signature_pattern_edges annotated (Pat.ObjectPat props type_ann) =
-    edges_to_each (with_pattern_context PatternContextRule.SignatureRest default_edge_rules) props.items ∷ edge_to_optional default_edge_rules type_ann ∷ []
-signature_pattern_edges annotated (Pat.RestPat arg type_ann) = edge_to_child default_edge_rules arg ∷ edge_to_optional default_edge_rules type_ann ∷ []
+    edges_to_children (with_pattern_context PatternContextRule.SignatureRest default_edge_rules) props.items
+    ∷ edge_to_optional_child default_edge_rules type_ann ∷ []
+signature_pattern_edges annotated (Pat.RestPat arg type_ann) = edge_to_child default_edge_rules arg ∷ edge_to_optional_child default_edge_rules type_ann ∷ []
 signature_pattern_edges annotated pat = pat_edges annotated pat
 
 -- An expression that asserts a type: `e as T` or `<T>e`.
@@ -154,11 +163,11 @@ is_type_assertion (Kind.Ty (Ty.TsTypeAssertion _ _)) = true
 is_type_assertion _ = false
 
 abbrev pub is_child_type_assertion : TreeNode → ℕ → Bool
-is_child_type_assertion node n = option_map_or is_type_assertion (read_node_of_greater_number kind_of node n) false
+is_child_type_assertion node n = option_map_or is_type_assertion (evaluate_node_of_greater_number kind_of node n) false
 
 -- The edges of a parameter property. The default value is visited only if it asserts a type and the parameter has no annotation.
 abbrev pub param_prop_edges : TreeNode → Bool → Pat → List FieldEdges
-param_prop_edges node annotated (Pat.BindingIdent _ type_ann) = edge_to_optional default_edge_rules type_ann ∷ []
+param_prop_edges node annotated (Pat.BindingIdent _ type_ann) = edge_to_optional_child default_edge_rules type_ann ∷ []
 param_prop_edges node annotated (Pat.AssignPat left right) =
     edge_to_child default_edge_rules left ∷ edge_to_child_if (not annotated && is_child_type_assertion node right) default_edge_rules right ∷ []
 param_prop_edges node annotated _ = []
@@ -182,11 +191,11 @@ edges_from node form refers annotated (Kind.Pat pat) = pat_edges_by_context node
 
 abbrev pub start_edges_of_kind : Kind → List FieldEdges
 start_edges_of_kind (Kind.Item (Item.ExportDefaultExpr expr)) = edge_to_child default_edge_rules expr ∷ []
-start_edges_of_kind (Kind.Member (Member.Constructor params _ _)) = edges_to_each default_edge_rules params.items ∷ []
+start_edges_of_kind (Kind.Member (Member.Constructor params _ _)) = edges_to_children default_edge_rules params.items ∷ []
 start_edges_of_kind (Kind.Member (Member.ClassMethod key _ _ _ _)) = edge_to_child (with_guard EdgeGuard.Expressions property_key_edge_rules) key ∷ []
 start_edges_of_kind (Kind.Member (Member.ClassProp key type_ann value _ _)) =
-    edge_to_child (with_guard EdgeGuard.Expressions property_key_edge_rules) key ∷ edge_to_optional default_edge_rules type_ann
+    edge_to_child (with_guard EdgeGuard.Expressions property_key_edge_rules) key ∷ edge_to_optional_child default_edge_rules type_ann
     ∷ edge_to_initializer (is_some type_ann) value ∷ []
-start_edges_of_kind (Kind.Member (Member.AutoAccessor _ type_ann _ _ _)) = edge_to_optional default_edge_rules type_ann ∷ []
+start_edges_of_kind (Kind.Member (Member.AutoAccessor _ type_ann _ _ _)) = edge_to_optional_child default_edge_rules type_ann ∷ []
 start_edges_of_kind (Kind.Expr (Expr.Assign _ _ right)) = edge_to_child (with_guard EdgeGuard.Expressions default_edge_rules) right ∷ []
 start_edges_of_kind _ = []

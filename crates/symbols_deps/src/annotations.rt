@@ -5,7 +5,7 @@ ghost use Rattle.symbols_ast.specs.NodeRefs.{node_view};
 ghost use Rattle.symbols_deps.specs.Annotations.{pattern_annotation, has_type_annotation};
 ghost use Rattle.symbols_deps.specs.Annotations.{is_child_pattern_annotated};
 ghost use Rattle.symbols_deps.specs.inner.KnownFacts.{IsKnownFactTrueOf};
-ghost use Rattle.symbols_nodes.specs.Readings.{read_node_of_greater_number};
+ghost use Rattle.symbols_nodes.specs.Readings.{evaluate_node_of_greater_number};
 
 use crate::known::KnownFact;
 use symbols_ast::tree::{Kind, NodeId, NodeRef, Pat};

@@ -8,7 +8,7 @@ ghost use Rattle.symbols_deps.specs.EdgeTable.{decl_edges, member_edges};
 ghost use Rattle.symbols_deps.specs.EdgeTable.{ty_edges, expr_edges};
 ghost use Rattle.symbols_deps.specs.EdgeTable.{edges_from, start_edges_of_kind};
 ghost use Rattle.symbols_deps.specs.inner.KnownFacts.{IsKnownFactTrueOf, IsExprNode};
-ghost use Rattle.symbols_nodes.specs.References.{dependency_view, reference_of_node};
+ghost use Rattle.symbols_nodes.specs.References.{namespaced_reference_view, reference_of_node};
 ghost use Rattle.symbols_deps.specs.inner.TableParts.{other_decl_edges, function_edges};
 ghost use Rattle.symbols_deps.specs.inner.TableParts.{class_edges, keyed_type_element_edges};
 ghost use Rattle.symbols_deps.specs.inner.TableParts.{other_member_edges, initializer_edge_rules};
@@ -60,8 +60,8 @@ impl<'a> Visit<'a> {
     #[cycle(walk)]
     #[inline(never)]
     fn visit_statement(self, decl: &Decl, found: &mut Found<'a>) -> Result<(), AllocError>
-        ensures { OnOk result (map dependency_view found.new.items
-            ≡ map dependency_view found.old.items
+        ensures { OnOk result (map namespaced_reference_view found.new.items
+            ≡ map namespaced_reference_view found.old.items
             ++ dependencies_along_edges self.entry (other_decl_edges (node_view self.entry.node) decl.now)) }
     {
         let open = EdgeRuleSet::open();
@@ -104,8 +104,8 @@ impl<'a> Visit<'a> {
     #[cycle(walk)]
     #[inline(never)]
     fn visit_function(self, decl: &Decl, found: &mut Found<'a>) -> Result<(), AllocError>
-        ensures { OnOk result (map dependency_view found.new.items
-            ≡ map dependency_view found.old.items
+        ensures { OnOk result (map namespaced_reference_view found.new.items
+            ≡ map namespaced_reference_view found.old.items
             ++ dependencies_along_edges self.entry (function_edges (node_view self.entry.node) decl.now)) }
     {
         let open = EdgeRuleSet::open();
@@ -136,8 +136,8 @@ impl<'a> Visit<'a> {
     #[cycle(walk)]
     #[inline(never)]
     fn visit_class(self, decl: &Decl, found: &mut Found<'a>) -> Result<(), AllocError>
-        ensures { OnOk result (map dependency_view found.new.items
-            ≡ map dependency_view found.old.items
+        ensures { OnOk result (map namespaced_reference_view found.new.items
+            ≡ map namespaced_reference_view found.old.items
             ++ dependencies_along_edges self.entry (class_edges (node_view self.entry.node) decl.now)) }
     {
         let open = EdgeRuleSet::open();
@@ -170,8 +170,8 @@ impl<'a> Visit<'a> {
     #[cycle(walk)]
     #[inline(always)]
     pub(crate) fn visit_decl(self, decl: &Decl, found: &mut Found<'a>) -> Result<(), AllocError>
-        ensures { OnOk result (map dependency_view found.new.items
-            ≡ map dependency_view found.old.items
+        ensures { OnOk result (map namespaced_reference_view found.new.items
+            ≡ map namespaced_reference_view found.old.items
             ++ dependencies_along_edges self.entry (decl_edges (node_view self.entry.node) decl.now)) }
     {
         match decl {
@@ -189,8 +189,8 @@ impl<'a> Visit<'a> {
     #[cycle(walk)]
     #[inline(never)]
     fn visit_keyed(self, member: &Member, found: &mut Found<'a>) -> Result<(), AllocError>
-        ensures { OnOk result (map dependency_view found.new.items
-            ≡ map dependency_view found.old.items
+        ensures { OnOk result (map namespaced_reference_view found.new.items
+            ≡ map namespaced_reference_view found.old.items
             ++ dependencies_along_edges self.entry (keyed_type_element_edges member.now)) }
     {
         let open = EdgeRuleSet::open();
@@ -237,8 +237,8 @@ impl<'a> Visit<'a> {
     #[cycle(walk)]
     #[inline(never)]
     fn visit_unkeyed(self, member: &Member, found: &mut Found<'a>) -> Result<(), AllocError>
-        ensures { OnOk result (map dependency_view found.new.items
-            ≡ map dependency_view found.old.items
+        ensures { OnOk result (map namespaced_reference_view found.new.items
+            ≡ map namespaced_reference_view found.old.items
             ++ dependencies_along_edges self.entry (other_member_edges member.now)) }
     {
         let open = EdgeRuleSet::open();
@@ -284,8 +284,8 @@ impl<'a> Visit<'a> {
         member: &Member,
         found: &mut Found<'a>,
     ) -> Result<(), AllocError>
-        ensures { OnOk result (map dependency_view found.new.items
-            ≡ map dependency_view found.old.items
+        ensures { OnOk result (map namespaced_reference_view found.new.items
+            ≡ map namespaced_reference_view found.old.items
             ++ dependencies_along_edges self.entry (member_edges member.now)) }
     {
         match member {
@@ -301,8 +301,8 @@ impl<'a> Visit<'a> {
     #[cycle(walk)]
     #[inline(always)]
     pub(crate) fn visit_ty(self, ty: &Ty, found: &mut Found<'a>) -> Result<(), AllocError>
-        ensures { OnOk result (map dependency_view found.new.items
-            ≡ map dependency_view found.old.items ++ dependencies_along_edges self.entry (ty_edges ty.now)) }
+        ensures { OnOk result (map namespaced_reference_view found.new.items
+            ≡ map namespaced_reference_view found.old.items ++ dependencies_along_edges self.entry (ty_edges ty.now)) }
     {
         let open = EdgeRuleSet::open();
         let of_types = EdgeRuleSet::marking(ReferenceNamespace::Type);
@@ -347,8 +347,8 @@ impl<'a> Visit<'a> {
     fn visit_expr(self, refers: bool, expr: &Expr, found: &mut Found<'a>) -> Result<(), AllocError>
         requires kind { IsExprNode (node_view self.node) expr.now }
         requires refers { refers ≡ is_some (reference_of_node (node_view self.node)) }
-        ensures { OnOk result (map dependency_view found.new.items
-            ≡ map dependency_view found.old.items
+        ensures { OnOk result (map namespaced_reference_view found.new.items
+            ≡ map namespaced_reference_view found.old.items
             ++ dependencies_along_edges self.entry (expr_edges refers expr.now)) }
     {
         let open = EdgeRuleSet::open();
@@ -396,8 +396,8 @@ impl<'a> Visit<'a> {
         requires kind { kind_of (node_view self.node) ≡ Some kind.now }
         requires refers { refers ≡ is_some (reference_of_node (node_view self.node)) }
         requires known { IsKnownFactTrueOf known (node_view self.node) }
-        ensures { OnOk result (map dependency_view found.new.items
-            ≡ map dependency_view found.old.items ++ dependencies_along_edges self.entry
+        ensures { OnOk result (map namespaced_reference_view found.new.items
+            ≡ map namespaced_reference_view found.old.items ++ dependencies_along_edges self.entry
             (edges_from (node_view self.entry.node) form refers
             (has_type_annotation (node_view self.entry.node)) kind.now)) }
     {
@@ -428,8 +428,8 @@ impl<'a> Visit<'a> {
         kind: &Kind,
         found: &mut Found<'a>,
     ) -> Result<(), AllocError>
-        ensures { OnOk result (map dependency_view found.new.items
-            ≡ map dependency_view found.old.items
+        ensures { OnOk result (map namespaced_reference_view found.new.items
+            ≡ map namespaced_reference_view found.old.items
             ++ dependencies_along_edges self.entry (start_edges_of_kind kind.now)) }
     {
         let open = EdgeRuleSet::open();

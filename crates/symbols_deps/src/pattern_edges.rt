@@ -6,7 +6,7 @@ ghost use Rattle.symbols_deps.specs.Annotations.{has_type_annotation};
 ghost use Rattle.symbols_deps.specs.EdgeTable.{pat_edges, signature_pattern_edges};
 ghost use Rattle.symbols_deps.specs.EdgeTable.{is_child_type_assertion, param_prop_edges};
 ghost use Rattle.symbols_deps.specs.inner.KnownFacts.{IsKnownFactTrueOf, IsPatNode};
-ghost use Rattle.symbols_nodes.specs.References.{dependency_view};
+ghost use Rattle.symbols_nodes.specs.References.{namespaced_reference_view};
 
 use crate::annotations::has_type_annotation;
 use crate::edge_table::{initializer_edge_rules, property_key_edge_rules, type_part_edge_rules};
@@ -42,8 +42,8 @@ impl<'a> Visit<'a> {
     ) -> Result<(), AllocError>
         requires kind { IsPatNode (node_view self.node) pat.now }
         requires known { IsKnownFactTrueOf known (node_view self.node) }
-        ensures { OnOk result (map dependency_view found.new.items
-            ≡ map dependency_view found.old.items ++ dependencies_along_edges self.entry (pat_edges
+        ensures { OnOk result (map namespaced_reference_view found.new.items
+            ≡ map namespaced_reference_view found.old.items ++ dependencies_along_edges self.entry (pat_edges
             (has_type_annotation (node_view self.entry.node)) pat.now)) }
     {
         let open = EdgeRuleSet::open();
@@ -89,8 +89,9 @@ impl<'a> Visit<'a> {
     ) -> Result<(), AllocError>
         requires kind { IsPatNode (node_view self.node) pat.now }
         requires known { IsKnownFactTrueOf known (node_view self.node) }
-        ensures { OnOk result (map dependency_view found.new.items
-            ≡ map dependency_view found.old.items ++ dependencies_along_edges self.entry (signature_pattern_edges
+        ensures { OnOk result (map namespaced_reference_view found.new.items
+            ≡ map namespaced_reference_view found.old.items ++ dependencies_along_edges self.entry
+            (signature_pattern_edges
             (has_type_annotation (node_view self.entry.node)) pat.now)) }
     {
         let open = EdgeRuleSet::open();
@@ -127,8 +128,8 @@ impl<'a> Visit<'a> {
     ) -> Result<(), AllocError>
         requires kind { IsPatNode (node_view self.node) pat.now }
         requires known { IsKnownFactTrueOf known (node_view self.node) }
-        ensures { OnOk result (map dependency_view found.new.items
-            ≡ map dependency_view found.old.items ++ dependencies_along_edges self.entry
+        ensures { OnOk result (map namespaced_reference_view found.new.items
+            ≡ map namespaced_reference_view found.old.items ++ dependencies_along_edges self.entry
             (param_prop_edges (node_view self.entry.node) (has_type_annotation (node_view self.entry.node))
             pat.now)) }
     {

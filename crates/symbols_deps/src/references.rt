@@ -9,8 +9,8 @@ ghost use Rattle.symbols_ast.specs.Ids.{id_view};
 ghost use Rattle.symbols_ast.specs.NodeRefs.{node_view, kind_of};
 ghost use Rattle.symbols_nodes.specs.DottedNames.{entity_name, member_expr_name};
 ghost use Rattle.symbols_deps.specs.inner.KnownFacts.{IsKnownFactTrueOf, may_be_reference};
-ghost use Rattle.symbols_nodes.specs.Readings.{read_node_of_greater_number};
-ghost use Rattle.symbols_nodes.specs.References.{id, reference_view, dependency_view};
+ghost use Rattle.symbols_nodes.specs.Readings.{evaluate_node_of_greater_number};
+ghost use Rattle.symbols_nodes.specs.References.{id, reference_view, namespaced_reference_view};
 ghost use Rattle.symbols_nodes.specs.References.{qualified_id_reference, import_type_reference};
 ghost use Rattle.symbols_nodes.specs.References.{reference_of_node};
 ghost use Rattle.symbols_deps.specs.inner.References.{dependency_in_namespace};
@@ -70,7 +70,7 @@ fn imported<'a>(
 ) -> Result<Option<SymbolNodeDep<'a>>, AllocError>
     ensures { IfOk result (λ reference. option_map reference_view reference
         ≡ option_map (import_type_reference specifier_text.now)
-        (read_node_of_greater_number entity_name (node_view node.entry)
+        (evaluate_node_of_greater_number entity_name (node_view node.entry)
         qualifier)) }
 {
     let Some(qualifier) = node_of_greater_number(node, qualifier) else {
@@ -139,7 +139,7 @@ pub(crate) fn push_name<'a>(
     namespace: ReferenceNamespace,
     found: &mut Found<'a>,
 ) -> Result<(), AllocError>
-    ensures { OnOk result (map dependency_view found.new.items ≡ map dependency_view found.old.items
+    ensures { OnOk result (map namespaced_reference_view found.new.items ≡ map namespaced_reference_view found.old.items
         ++ dependency_in_namespace namespace (id (id_view sym.now)) ∷ []) }
 {
     found.push((SymbolNodeDep::Id(sym), namespace))?;
@@ -158,8 +158,9 @@ fn push_any<'a>(
     requires { IsKnownFactTrueOf known (node_view node) }
     ensures refers { IfOk result
         (λ refers. refers ≡ is_some (reference_of_node (node_view node.entry))) }
-    ensures added { IfOk result (λ _. map dependency_view found.new.items
-        ≡ map dependency_view found.old.items ++ option_to_list (option_map (dependency_in_namespace namespace)
+    ensures added { IfOk result (λ _. map namespaced_reference_view found.new.items
+        ≡ map namespaced_reference_view found.old.items ++ option_to_list
+        (option_map (dependency_in_namespace namespace)
         (reference_of_node (node_view node.entry)))) }
 {
     match reference_of_node(alloc, node, known)? {
@@ -185,8 +186,9 @@ pub(crate) fn push_reference<'a>(
     requires known { IsKnownFactTrueOf known (node_view node) }
     ensures refers { IfOk result
         (λ refers. refers ≡ is_some (reference_of_node (node_view node.entry))) }
-    ensures added { IfOk result (λ _. map dependency_view found.new.items
-        ≡ map dependency_view found.old.items ++ option_to_list (option_map (dependency_in_namespace namespace)
+    ensures added { IfOk result (λ _. map namespaced_reference_view found.new.items
+        ≡ map namespaced_reference_view found.old.items ++ option_to_list
+        (option_map (dependency_in_namespace namespace)
         (reference_of_node (node_view node.entry)))) }
 {
     if !may_be_reference(kind) {

@@ -7,7 +7,7 @@ ghost use Rattle.symbols_deps.specs.Dependencies.{IsDependencyList, start_steps_
 ghost use Rattle.symbols_deps.specs.Dependencies.{steps_of_exported_decl};
 ghost use Rattle.symbols_deps.specs.Dependencies.{dependencies, dependencies_of_exported_decl};
 ghost use Rattle.symbols_nodes.specs.NodeViews.{export_decl_view, symbol_node_view};
-ghost use Rattle.symbols_nodes.specs.References.{SymbolDependency, dependency_view, reference_view};
+ghost use Rattle.symbols_nodes.specs.References.{NamespacedReference, namespaced_reference_view, reference_view};
 ghost use Rattle.symbols_nodes.specs.declared.deps.dep.ResolveDepsMode.TheVariants.{TypesAndExpressions};
 ghost use Rattle.symbols_table.specs.DeclViews.{decl_view};
 
@@ -71,8 +71,8 @@ impl<'a> ResolveDeps<'a> for ExportDeclRef<'a> {
         mode: ResolveDepsMode,
     ) -> Result<Vec<(SymbolNodeDep<'a>, ReferenceNamespace)>, AllocError>
         ensures list { IfOk result (λ list. IsDependencyList mode
-            (steps_of_exported_decl (export_decl_view self.now)) (map dependency_view list.items)) }
-        ensures value { IfOk result (λ list. map dependency_view list.items
+            (steps_of_exported_decl (export_decl_view self.now)) (map namespaced_reference_view list.items)) }
+        ensures value { IfOk result (λ list. map namespaced_reference_view list.items
             ≡ dependencies_of_exported_decl mode (export_decl_view self.now)) }
         ensures subsequence { IsSubsequence (dependencies_of_exported_decl mode (export_decl_view self.now))
             (dependencies_of_exported_decl TypesAndExpressions (export_decl_view self.now)) }
@@ -88,7 +88,7 @@ impl<'a> ResolveDeps<'a> for ExportDeclRef<'a> {
         mode: ResolveDepsMode,
     ) -> Result<Vec<SymbolNodeDep<'a>>, AllocError>
         ensures { IfOk result (λ list. map reference_view list.items
-            ≡ map (λ (d : SymbolDependency).
+            ≡ map (λ (d : NamespacedReference).
             d.reference) (dependencies_of_exported_decl mode (export_decl_view self.now))) }
     {
         let all = self.deps_with_namespace(alloc, mode)?;
@@ -105,8 +105,8 @@ impl<'a> ResolveDeps<'a> for SymbolNodeRef<'a> {
         mode: ResolveDepsMode,
     ) -> Result<Vec<(SymbolNodeDep<'a>, ReferenceNamespace)>, AllocError>
         ensures list { IfOk result (λ list. IsDependencyList mode (start_steps_of_decl (symbol_node_view self.now))
-            (map dependency_view list.items)) }
-        ensures value { IfOk result (λ list. map dependency_view list.items
+            (map namespaced_reference_view list.items)) }
+        ensures value { IfOk result (λ list. map namespaced_reference_view list.items
             ≡ dependencies mode (symbol_node_view self.now)) }
         ensures subsequence { IsSubsequence (dependencies mode (symbol_node_view self.now))
             (dependencies TypesAndExpressions (symbol_node_view self.now)) }
@@ -122,7 +122,7 @@ impl<'a> ResolveDeps<'a> for SymbolNodeRef<'a> {
         mode: ResolveDepsMode,
     ) -> Result<Vec<SymbolNodeDep<'a>>, AllocError>
         ensures { IfOk result (λ list. map reference_view list.items
-            ≡ map (λ (d : SymbolDependency).
+            ≡ map (λ (d : NamespacedReference).
             d.reference) (dependencies mode (symbol_node_view self.now))) }
     {
         let all = self.deps_with_namespace(alloc, mode)?;
@@ -138,7 +138,7 @@ impl<'a> ResolveDeps<'a> for SymbolDecl<'a> {
         mode: ResolveDepsMode,
     ) -> Result<Vec<(SymbolNodeDep<'a>, ReferenceNamespace)>, AllocError>
         ensures { IfOk result
-            (λ deps. map dependency_view deps.items ≡ decl_dependencies mode (decl_view self.now)) }
+            (λ deps. map namespaced_reference_view deps.items ≡ decl_dependencies mode (decl_view self.now)) }
     {
         match self.maybe_node() {
             Some(node) => node.deps_with_namespace(alloc, mode),
@@ -152,7 +152,7 @@ impl<'a> ResolveDeps<'a> for SymbolDecl<'a> {
         mode: ResolveDepsMode,
     ) -> Result<Vec<SymbolNodeDep<'a>>, AllocError>
         ensures { IfOk result (λ deps. map reference_view deps.items
-            ≡ map (λ (d : SymbolDependency). d.reference) (decl_dependencies mode (decl_view self.now))) }
+            ≡ map (λ (d : NamespacedReference). d.reference) (decl_dependencies mode (decl_view self.now))) }
     {
         match self.maybe_node() {
             Some(node) => node.deps(alloc, mode),

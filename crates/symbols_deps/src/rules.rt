@@ -9,10 +9,10 @@ ghost use Rattle.symbols_ast.specs.Names.{kind_name};
 ghost use Rattle.symbols_deps.specs.Dependencies.{is_computed_key, is_rest_pattern};
 ghost use Rattle.symbols_deps.specs.Dependencies.{signature_context_if};
 ghost use Rattle.symbols_deps.specs.Dependencies.{pattern_context_of, value_namespace_if};
-ghost use Rattle.symbols_deps.specs.Dependencies.{edge_namespace, guard_needs_expressions};
+ghost use Rattle.symbols_deps.specs.Dependencies.{edge_namespace, is_guard_for_expressions_mode};
 ghost use Rattle.symbols_deps.specs.EdgeRules.{default_edge_rules, with_pattern_context};
 ghost use Rattle.symbols_deps.specs.EdgeRules.{with_namespace_rule, with_guard};
-ghost use Rattle.symbols_deps.specs.EdgeRules.{edge_rules_with_namespace_mark};
+ghost use Rattle.symbols_deps.specs.EdgeRules.{edge_rules_marking_namespace};
 ghost use Rattle.symbols_deps.specs.EdgeTable.{is_type_assertion};
 ghost use Rattle.symbols_nodes.specs.References.{visits_expressions};
 
@@ -84,7 +84,7 @@ impl EdgeRuleSet {
 
     /// Returns the default rules with this mark.
     pub(crate) fn marking(namespace: ReferenceNamespace) -> EdgeRuleSet
-        ensures { result ≡ edge_rules_with_namespace_mark namespace }
+        ensures { result ≡ edge_rules_marking_namespace namespace }
     {
         EdgeRuleSet::open().with_namespace_rule(NamespaceRule::Marked(namespace))
     }
@@ -109,8 +109,8 @@ impl EdgeRuleSet {
 
     /// Returns whether the edge to a child of a kind is followed in the mode.
     #[inline(always)]
-    pub(crate) fn is_followed_in_mode(self, mode: ResolveDepsMode, kind: &Kind) -> bool
-        ensures { result ≡ (visits_expressions mode || not (guard_needs_expressions self.guard kind.now)) }
+    pub(crate) fn is_step_followed_in_mode(self, mode: ResolveDepsMode, kind: &Kind) -> bool
+        ensures { result ≡ (visits_expressions mode || not (is_guard_for_expressions_mode self.guard kind.now)) }
     {
         mode.visit_exprs() || !self.guard.needs_expressions(kind)
     }
@@ -224,7 +224,7 @@ impl EdgeGuard {
     /// Returns whether the edge to a child of a kind is followed only with expressions.
     #[inline(always)]
     pub(crate) fn needs_expressions(self, kind: &Kind) -> bool
-        ensures { result ≡ guard_needs_expressions self kind.now }
+        ensures { result ≡ is_guard_for_expressions_mode self kind.now }
     {
         match self {
             EdgeGuard::Open => false,

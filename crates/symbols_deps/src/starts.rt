@@ -9,7 +9,7 @@ ghost use Rattle.symbols_deps.specs.Dependencies.{steps_from_function_child};
 ghost use Rattle.symbols_deps.specs.Dependencies.{steps_of_exported_decl, steps_of_default_export};
 ghost use Rattle.symbols_deps.specs.Dependencies.{start_steps_of_decl, start_edge_steps};
 ghost use Rattle.symbols_nodes.specs.NodeViews.{export_decl_view, symbol_node_view};
-ghost use Rattle.symbols_nodes.specs.References.{dependency_view};
+ghost use Rattle.symbols_nodes.specs.References.{namespaced_reference_view};
 
 use crate::known::KnownFact;
 use crate::references::{Found, may_be_reference, reference_of_node};
@@ -28,8 +28,8 @@ fn push_first<'a>(
     node: NodeRef<'a>,
     found: &mut Found<'a>,
 ) -> Result<(), AllocError>
-    ensures { OnOk result (map dependency_view found.new.items
-        ≡ map dependency_view found.old.items
+    ensures { OnOk result (map namespaced_reference_view found.new.items
+        ≡ map namespaced_reference_view found.old.items
         ++ dependencies_from_steps mode (start_edge_steps (node_view node.entry))) }
 {
     let namespace = ReferenceNamespace::Value;
@@ -51,8 +51,8 @@ fn push_edges<'a>(
     node: NodeRef<'a>,
     found: &mut Found<'a>,
 ) -> Result<(), AllocError>
-    ensures { OnOk result (map dependency_view found.new.items
-        ≡ map dependency_view found.old.items
+    ensures { OnOk result (map namespaced_reference_view found.new.items
+        ≡ map namespaced_reference_view found.old.items
         ++ dependencies_from_steps mode (steps_from_node (node_view node.entry))) }
 {
     let kind = node.kind();
@@ -83,8 +83,8 @@ fn push_node<'a>(
     node: NodeRef<'a>,
     found: &mut Found<'a>,
 ) -> Result<(), AllocError>
-    ensures { OnOk result (map dependency_view found.new.items
-        ≡ map dependency_view found.old.items
+    ensures { OnOk result (map namespaced_reference_view found.new.items
+        ≡ map namespaced_reference_view found.old.items
         ++ dependencies_from_steps mode (steps_from_node (node_view node.entry))) }
 {
     let namespace = ReferenceNamespace::Value;
@@ -110,8 +110,8 @@ fn push_child<'a>(
     child: Option<NodeRef<'a>>,
     found: &mut Found<'a>,
 ) -> Result<(), AllocError>
-    ensures { OnOk result (map dependency_view found.new.items
-        ≡ map dependency_view found.old.items
+    ensures { OnOk result (map namespaced_reference_view found.new.items
+        ≡ map namespaced_reference_view found.old.items
         ++ dependencies_from_steps mode (option_map_or steps_from_node (option_map node_view child.entry) [])) }
 {
     match child {
@@ -128,8 +128,8 @@ pub(crate) fn push_exported<'a>(
     decl: ExportDeclRef<'a>,
     found: &mut Found<'a>,
 ) -> Result<(), AllocError>
-    ensures { OnOk result (map dependency_view found.new.items
-        ≡ map dependency_view found.old.items
+    ensures { OnOk result (map namespaced_reference_view found.new.items
+        ≡ map namespaced_reference_view found.old.items
         ++ dependencies_from_steps mode (steps_of_exported_decl (export_decl_view decl.entry))) }
 {
     match decl {
@@ -151,8 +151,8 @@ fn push_default<'a>(
     decl: NodeRef<'a>,
     found: &mut Found<'a>,
 ) -> Result<(), AllocError>
-    ensures { OnOk result (map dependency_view found.new.items
-        ≡ map dependency_view found.old.items ++ dependencies_from_steps mode (steps_of_default_export
+    ensures { OnOk result (map namespaced_reference_view found.new.items
+        ≡ map namespaced_reference_view found.old.items ++ dependencies_from_steps mode (steps_of_default_export
         (node_view decl.entry) (kind_of (node_view decl.entry)))) }
 {
     match decl.kind() {
@@ -171,8 +171,8 @@ fn push_default_of<'a>(
     node: NodeRef<'a>,
     found: &mut Found<'a>,
 ) -> Result<(), AllocError>
-    ensures { OnOk result (map dependency_view found.new.items
-        ≡ map dependency_view found.old.items ++ dependencies_from_steps mode
+    ensures { OnOk result (map namespaced_reference_view found.new.items
+        ≡ map namespaced_reference_view found.old.items ++ dependencies_from_steps mode
         (option_map_or (λ (decl : TreeNode). steps_of_default_export decl (kind_of decl))
         (child_in_field (node_view node.entry) decl_of) [])) }
 {
@@ -190,8 +190,8 @@ fn push_method<'a>(
     node: NodeRef<'a>,
     found: &mut Found<'a>,
 ) -> Result<(), AllocError>
-    ensures { OnOk result (map dependency_view found.new.items
-        ≡ map dependency_view found.old.items ++ dependencies_from_steps mode
+    ensures { OnOk result (map namespaced_reference_view found.new.items
+        ≡ map namespaced_reference_view found.old.items ++ dependencies_from_steps mode
         (start_edge_steps (node_view node.entry) ++ steps_from_function_child (node_view node.entry))) }
 {
     push_first(alloc, mode, node, found)?;
@@ -206,8 +206,8 @@ pub(crate) fn push_dependencies<'a>(
     node: SymbolNodeRef<'a>,
     found: &mut Found<'a>,
 ) -> Result<(), AllocError>
-    ensures { OnOk result (map dependency_view found.new.items
-        ≡ map dependency_view found.old.items
+    ensures { OnOk result (map namespaced_reference_view found.new.items
+        ≡ map namespaced_reference_view found.old.items
         ++ dependencies_from_steps mode (start_steps_of_decl (symbol_node_view node.entry))) }
 {
     match node {

@@ -5,12 +5,12 @@ ghost use Rattle.std.specs.Prelude.{if◌then◌else◌};
 ghost use Rattle.symbols_ast.specs.Ids.{id_view};
 ghost use Rattle.symbols_ast.specs.NodeRefs.{TreeNode, node_view};
 ghost use Rattle.symbols_nodes.specs.declared.deps.dep.ReferenceNamespace.TheVariants as In;
-ghost use Rattle.symbols_deps.specs.Dependencies.{vertex_of};
-ghost use Rattle.symbols_deps.specs.EdgeRules.{default_edge_rules, edge_rules_with_namespace_mark};
-ghost use Rattle.symbols_deps.specs.EdgeRules.{edge_to_child, edges_to_each, edge_to_optional};
+ghost use Rattle.symbols_deps.specs.Dependencies.{vertex_of_node};
+ghost use Rattle.symbols_deps.specs.EdgeRules.{default_edge_rules, edge_rules_marking_namespace};
+ghost use Rattle.symbols_deps.specs.EdgeRules.{edge_to_child, edges_to_children, edge_to_optional_child};
 ghost use Rattle.symbols_deps.specs.inner.KnownFacts.{IsKnownFactTrueOf};
 ghost use Rattle.symbols_nodes.specs.Readings.{node_of_greater_number};
-ghost use Rattle.symbols_nodes.specs.References.{dependency_view, id};
+ghost use Rattle.symbols_nodes.specs.References.{namespaced_reference_view, id};
 ghost use Rattle.symbols_deps.specs.inner.References.{dependency_in_namespace};
 ghost use Rattle.symbols_deps.specs.inner.TableParts.{type_part_edge_rules};
 
@@ -73,9 +73,9 @@ impl<'a> Visit<'a> {
         known: KnownFact,
     ) -> Result<(), AllocError>
         requires { IsKnownFactTrueOf known (node_view node) }
-        ensures { OnOk result (map dependency_view found.new.items
-            ≡ map dependency_view found.old.items
-            ++ dependencies_at_vertex mode namespace (vertex_of (node_view node.entry) form)) }
+        ensures { OnOk result (map namespaced_reference_view found.new.items
+            ≡ map namespaced_reference_view found.old.items
+            ++ dependencies_at_vertex mode namespace (vertex_of_node (node_view node.entry) form)) }
     {
         let kind = node.kind();
         let refers = push_reference(alloc, node, kind, known, namespace, found)?;
@@ -100,9 +100,9 @@ impl<'a> Visit<'a> {
         form: PatternContext,
         found: &mut Found<'a>,
     ) -> Result<(), AllocError>
-        ensures { OnOk result (map dependency_view found.new.items
-            ≡ map dependency_view found.old.items
-            ++ dependencies_at_vertex mode namespace (vertex_of (node_view node.entry) form)) }
+        ensures { OnOk result (map namespaced_reference_view found.new.items
+            ≡ map namespaced_reference_view found.old.items
+            ++ dependencies_at_vertex mode namespace (vertex_of_node (node_view node.entry) form)) }
     {
         let visit = Visit {
             alloc,
@@ -151,7 +151,7 @@ impl<'a> Visit<'a> {
             return None;
         };
         let kind = node.kind();
-        if !rules.is_followed_in_mode(self.mode, kind) {
+        if !rules.is_step_followed_in_mode(self.mode, kind) {
             return None;
         }
         let namespace = rules.mark.edge_namespace(kind).unwrap_or(self.namespace);
@@ -168,7 +168,7 @@ impl<'a> Visit<'a> {
     fn only_name(self, parts: &[NodeId]) -> Option<(&'a Id, ReferenceNamespace)>
         ensures { IfSome result
             (λ name. dependencies_along_edge self.entry
-            (edges_to_each type_part_edge_rules parts.now)
+            (edges_to_children type_part_edge_rules parts.now)
             ≡ dependency_in_namespace name.1 (id (id_view name.0.now)) ∷ []) }
     {
         if parts.len() != 1 {
@@ -187,7 +187,7 @@ impl<'a> Visit<'a> {
     #[inline(always)]
     fn only_name_at(self, form: PatternContext) -> Option<(&'a Id, ReferenceNamespace)>
         ensures { IfSome result (λ name. dependencies_at_vertex self.entry.mode self.entry.namespace
-            (vertex_of (node_view self.entry.node) form)
+            (vertex_of_node (node_view self.entry.node) form)
             ≡ dependency_in_namespace name.1 (id (id_view name.0.now)) ∷ []) }
     {
         match self.node.kind() {
@@ -205,8 +205,8 @@ impl<'a> Visit<'a> {
     #[cycle(walk)]
     #[inline(always)]
     fn visit_at(self, child: Child<'a>, found: &mut Found<'a>) -> Result<(), AllocError>
-        ensures { OnOk result (map dependency_view found.new.items
-            ≡ map dependency_view found.old.items ++ dependencies_at_child self.entry.mode child.entry) }
+        ensures { OnOk result (map namespaced_reference_view found.new.items
+            ≡ map namespaced_reference_view found.old.items ++ dependencies_at_child self.entry.mode child.entry) }
     {
         let Child {
             node,
@@ -241,8 +241,9 @@ impl<'a> Visit<'a> {
     ) -> Result<(), AllocError>
         requires { (child : TreeNode) → node_of_greater_number (node_view self.node) id ≡ Some child
             → IsKnownFactTrueOf known child }
-        ensures { OnOk result (map dependency_view found.new.items
-            ≡ map dependency_view found.old.items ++ dependencies_along_edge self.entry (edge_to_child rules id)) }
+        ensures { OnOk result (map namespaced_reference_view found.new.items
+            ≡ map namespaced_reference_view found.old.items ++ dependencies_along_edge self.entry
+            (edge_to_child rules id)) }
     {
         let Some(child) = self.open_child(rules, id) else {
             return Ok(());
@@ -264,8 +265,9 @@ impl<'a> Visit<'a> {
         id: NodeId,
         found: &mut Found<'a>,
     ) -> Result<(), AllocError>
-        ensures { OnOk result (map dependency_view found.new.items
-            ≡ map dependency_view found.old.items ++ dependencies_along_edge self.entry (edge_to_child rules id)) }
+        ensures { OnOk result (map namespaced_reference_view found.new.items
+            ≡ map namespaced_reference_view found.old.items ++ dependencies_along_edge self.entry
+            (edge_to_child rules id)) }
     {
         match self.open_child(rules, id) {
             Some(child) => self.visit_at(child, found),
@@ -277,9 +279,9 @@ impl<'a> Visit<'a> {
     #[cycle(walk)]
     #[inline(always)]
     pub(crate) fn visit_type(self, ty: NodeId, found: &mut Found<'a>) -> Result<(), AllocError>
-        ensures { OnOk result (map dependency_view found.new.items
-            ≡ map dependency_view found.old.items
-            ++ dependencies_along_edge self.entry (edge_to_child (edge_rules_with_namespace_mark In.Type) ty)) }
+        ensures { OnOk result (map namespaced_reference_view found.new.items
+            ≡ map namespaced_reference_view found.old.items
+            ++ dependencies_along_edge self.entry (edge_to_child (edge_rules_marking_namespace In.Type) ty)) }
     {
         self.visit_child(EdgeRuleSet::marking(ReferenceNamespace::Type), ty, found)
     }
@@ -294,8 +296,9 @@ impl<'a> Visit<'a> {
         id: NodeId,
         found: &mut Found<'a>,
     ) -> Result<(), AllocError>
-        ensures { OnOk result (map dependency_view found.new.items
-            ≡ map dependency_view found.old.items ++ dependencies_along_edge self.entry (edge_to_child rules id)) }
+        ensures { OnOk result (map namespaced_reference_view found.new.items
+            ≡ map namespaced_reference_view found.old.items ++ dependencies_along_edge self.entry
+            (edge_to_child rules id)) }
     {
         let Some(child) = self.open_child(rules, id) else {
             return Ok(());
@@ -324,8 +327,9 @@ impl<'a> Visit<'a> {
         id: Option<NodeId>,
         found: &mut Found<'a>,
     ) -> Result<(), AllocError>
-        ensures { OnOk result (map dependency_view found.new.items
-            ≡ map dependency_view found.old.items ++ dependencies_along_edge self.entry (edge_to_optional rules id)) }
+        ensures { OnOk result (map namespaced_reference_view found.new.items
+            ≡ map namespaced_reference_view found.old.items ++ dependencies_along_edge self.entry
+            (edge_to_optional_child rules id)) }
     {
         match id {
             Some(id) => self.visit_child(rules, id, found),
@@ -341,9 +345,9 @@ impl<'a> Visit<'a> {
         id: Option<NodeId>,
         found: &mut Found<'a>,
     ) -> Result<(), AllocError>
-        ensures { OnOk result (map dependency_view found.new.items
-            ≡ map dependency_view found.old.items
-            ++ dependencies_along_edge self.entry (edge_to_optional default_edge_rules id)) }
+        ensures { OnOk result (map namespaced_reference_view found.new.items
+            ≡ map namespaced_reference_view found.old.items
+            ++ dependencies_along_edge self.entry (edge_to_optional_child default_edge_rules id)) }
     {
         let Some(id) = id else {
             return Ok(());
@@ -374,9 +378,9 @@ impl<'a> Visit<'a> {
         ids: &[NodeId],
         found: &mut Found<'a>,
     ) -> Result<(), AllocError>
-        ensures { OnOk result (map dependency_view found.new.items
-            ≡ map dependency_view found.old.items
-            ++ dependencies_along_edge self.entry (edges_to_each rules ids.now)) }
+        ensures { OnOk result (map namespaced_reference_view found.new.items
+            ≡ map namespaced_reference_view found.old.items
+            ++ dependencies_along_edge self.entry (edges_to_children rules ids.now)) }
     {
         for id in ids {
             self.visit_item(rules, *id, found)?;

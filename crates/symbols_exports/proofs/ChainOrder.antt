@@ -1,6 +1,6 @@
 -- Chain order.
 use Rattle.std.proofs.Common.{◌≡◌, ℕ, zero, suc, ◌+◌, ◌<◌, ◌≤◌, ◌⊎◌, inl, inr, List, [], ◌∷◌, ◌++◌, take, ap, refl, sym, subst, arith}
-use Rattle.symbols_exports.specs.Chains.{IsChainBefore, IsChainUpTo}
+use Rattle.symbols_exports.specs.Chains.{IsChainBefore, IsChainBeforeOrEqual}
 
 pub never_before_itself : (a : List ℕ) → IsChainBefore a a → ⊥
 never_before_itself [] before = before
@@ -16,23 +16,23 @@ before_then_before (i ∷ a) (j ∷ b) (k ∷ c) (inl ab) (inr bc) = inl (omega 
 before_then_before (i ∷ a) (j ∷ b) (k ∷ c) (inr ab) (inl bc) = inl (omega arith)
 before_then_before (i ∷ a) (j ∷ b) (k ∷ c) (inr ab) (inr bc) = inr (omega arith, before_then_before a b c ab.1 bc.1)
 
-pub before_then_up_to : (a b c : List ℕ) → IsChainBefore a b → IsChainUpTo b c → IsChainBefore a c
+pub before_then_up_to : (a b c : List ℕ) → IsChainBefore a b → IsChainBeforeOrEqual b c → IsChainBefore a c
 before_then_up_to a b c ab (inl same) = subst (IsChainBefore a) same ab
 before_then_up_to a b c ab (inr bc) = before_then_before a b c ab bc
 
-pub up_to_then_before : (a b c : List ℕ) → IsChainUpTo a b → IsChainBefore b c → IsChainBefore a c
+pub up_to_then_before : (a b c : List ℕ) → IsChainBeforeOrEqual a b → IsChainBefore b c → IsChainBefore a c
 up_to_then_before a b c (inl same) bc = subst (λ x. IsChainBefore x c) (sym same) bc
 up_to_then_before a b c (inr ab) bc = before_then_before a b c ab bc
 
-pub up_to_then_up_to : (a b c : List ℕ) → IsChainUpTo a b → IsChainUpTo b c → IsChainUpTo a c
-up_to_then_up_to a b c (inl same) bc = subst (λ x. IsChainUpTo x c) (sym same) bc
+pub up_to_then_up_to : (a b c : List ℕ) → IsChainBeforeOrEqual a b → IsChainBeforeOrEqual b c → IsChainBeforeOrEqual a c
+up_to_then_up_to a b c (inl same) bc = subst (λ x. IsChainBeforeOrEqual x c) (sym same) bc
 up_to_then_up_to a b c (inr ab) bc = inr (before_then_up_to a b c ab bc)
 
-pub same_both_traces : (a b : List ℕ) → IsChainUpTo a b → IsChainUpTo b a → a ≡ b
+pub same_both_traces : (a b : List ℕ) → IsChainBeforeOrEqual a b → IsChainBeforeOrEqual b a → a ≡ b
 same_both_traces a b (inl same) ba = same
 same_both_traces a b (inr ab) ba = absurd (never_before_itself a (before_then_up_to a b a ab ba))
 
-pub up_to_nothing : (c : List ℕ) → IsChainUpTo c [] → c ≡ []
+pub up_to_nothing : (c : List ℕ) → IsChainBeforeOrEqual c [] → c ≡ []
 up_to_nothing c (inl same) = same
 up_to_nothing c (inr before) = absurd before
 
@@ -40,13 +40,14 @@ two_positions : (i j : ℕ) → (i < j) ⊎ ((i ≡ j) ⊎ (j < i))
 two_positions i j = grind arith
 
 -- of two chains the first isn't after the other, or the other comes before it
-pub up_to_or_after : (a b : List ℕ) → IsChainUpTo a b ⊎ IsChainBefore b a
+pub up_to_or_after : (a b : List ℕ) → IsChainBeforeOrEqual a b ⊎ IsChainBefore b a
 up_to_or_after [] [] = inl (inl refl)
 up_to_or_after [] (j ∷ b) = inl (inr tt)
 up_to_or_after (i ∷ a) [] = inr tt
 up_to_or_after (i ∷ a) (j ∷ b) = by_rest (up_to_or_after a b) (two_positions i j)
   where
-    by_rest : IsChainUpTo a b ⊎ IsChainBefore b a → (i < j) ⊎ ((i ≡ j) ⊎ (j < i)) → IsChainUpTo (i ∷ a) (j ∷ b) ⊎ IsChainBefore (j ∷ b) (i ∷ a)
+    by_rest : IsChainBeforeOrEqual a b ⊎ IsChainBefore b a → (i < j) ⊎ ((i ≡ j) ⊎ (j < i)) → IsChainBeforeOrEqual (i ∷ a) (j ∷ b) ⊎ IsChainBefore (j ∷ b)
+        (i ∷ a)
     by_rest rest (inl less) = inl (inr (inl less))
     by_rest rest (inr (inr more)) = inr (inl more)
     by_rest (inl (inl same)) (inr (inl equal)) = inl (inl cc)
@@ -58,7 +59,7 @@ pub before_after : (front a b : List ℕ) → IsChainBefore a b → IsChainBefor
 before_after [] a b ab = ab
 before_after (i ∷ front) a b ab = inr (refl, before_after front a b ab)
 
-pub beginning_up_to : (k : ℕ) (a : List ℕ) → IsChainUpTo (take k a) a
+pub beginning_up_to : (k : ℕ) (a : List ℕ) → IsChainBeforeOrEqual (take k a) a
 beginning_up_to zero [] = inl refl
 beginning_up_to zero (i ∷ a) = inr tt
 beginning_up_to (suc k) [] = inl refl

@@ -16,7 +16,7 @@ use Rattle.symbols_exports.specs.Chains.{IsChainBefore}
 use Rattle.symbols_exports.specs.Exports.{ExplicitExports, ExportEntry}
 use Rattle.symbols_exports.specs.CollectedNames.{ResolvedExportView}
 use Rattle.symbols_exports.specs.inner.Collecting.{has_name, has_statements, with_name, with_names}
-use Rattle.symbols_exports.specs.ExportViews.{ExportView, chain_statements, entry_export_view, star_statement_by_specifier, export_by_specifier}
+use Rattle.symbols_exports.specs.ExportViews.{ExportView, chain_statements, export_view_of_entry, star_statement_by_specifier, export_by_specifier}
 use Rattle.symbols_exports.proofs.Cursors.{Visit}
 use Rattle.symbols_exports.proofs.FirstOfEachName.{AreFound, name_passed_over, name_added}
 
@@ -30,13 +30,13 @@ module _ (graph : GraphView) (root : RootView) (start : List ℕ) where
   names_viewed [] q = refl
   names_viewed (name ∷ names) q = ap (λ b. bytes_eq q name.name || b) (names_viewed names q)
 
-  entries_viewed : (found : List ExportEntry) (q : List ℕ) → list_any (λ (t : ExportView). bytes_eq q t.name) (map (entry_export_view graph start) found)
+  entries_viewed : (found : List ExportEntry) (q : List ℕ) → list_any (λ (t : ExportView). bytes_eq q t.name) (map (export_view_of_entry graph start) found)
       ≡ list_any (λ (entry : ExportEntry). bytes_eq q entry.name) found
   entries_viewed [] q = refl
   entries_viewed (entry ∷ found) q = ap (λ b. bytes_eq q entry.name || b) (entries_viewed found q)
 
   module _ (names : List ResolvedExportView) (found : List ExportEntry)
-      (alike : map (entry_export_view graph start) found ≡ map (export_by_specifier root) names) (q : List ℕ)
+      (alike : map (export_view_of_entry graph start) found ≡ map (export_by_specifier root) names) (q : List ℕ)
     where
       tested : has_name names q ≡ list_any (λ (entry : ExportEntry). bytes_eq q entry.name) found
       tested = names_viewed names q ∙ (ap (list_any (λ (t : ExportView). bytes_eq q t.name)) (sym alike) ∙ entries_viewed found q)
@@ -55,7 +55,7 @@ module _ (graph : GraphView) (root : RootView) (start : List ℕ) where
 -- ---- one name, and all of a module
 
 abbrev AreNamed : GraphView → RootView → List ℕ → List ExportEntry → List ResolvedExportView → Type 0
-AreNamed graph root start found names = map (entry_export_view graph start) found ≡ map (export_by_specifier root) names
+AreNamed graph root start found names = map (export_view_of_entry graph start) found ≡ map (export_by_specifier root) names
 
 module _ (graph : GraphView) (root : RootView) (start : List ℕ) (explicit : ExplicitExports) (visited : List Visit) (now : Visit) (following : (c u : List ℕ)
     → Contains visited (c, u) → IsChainBefore c now.0) (re_exports : List (ModuleId × List ℕ)) (exporter : ModuleId) (along : chain_statements graph start now.0
@@ -119,12 +119,12 @@ module _ (graph : GraphView) (root : RootView) (start : List ℕ) (explicit : Ex
         collected.0 ++ record { name = exported.0; chain = now.0; exporter = now.1; symbol = exported.1 } ∷ [],
         name_added explicit visited now k collected.0 following collected.1 exported.0 exported.1 at_k (passes_on goes)
             (none_named graph root start names collected.0 collected.2 exported.0 lacks),
-        map-append (entry_export_view graph start) collected.0 (record { name = exported.0; chain = now.0; exporter = now.1; symbol = exported.1 } ∷ [])
+        map-append (export_view_of_entry graph start) collected.0 (record { name = exported.0; chain = now.0; exporter = now.1; symbol = exported.1 } ∷ [])
             ∙ (viewed_too ∙ sym (map-append (export_by_specifier root) names
             (record { name = exported.0; statements = re_exports; export = record { «module» = exporter; symbol_id = exported.1 } } ∷ []))),
       )
         where
-          viewed_too : map (entry_export_view graph start) collected.0 ++ record {
+          viewed_too : map (export_view_of_entry graph start) collected.0 ++ record {
             name = exported.0;
             statements = chain_statements graph start now.0;
             exporter = now.1;

@@ -16,8 +16,9 @@ use Rattle.symbols_exports.specs.declared.export_chain.ResolvedExportOrReExportA
 use Rattle.symbols_exports.specs.ExportChains.{resolved_export, statements_of_chain}
 use Rattle.symbols_exports.specs.CollectedNames.{ResolvedExportView, resolved_export_view, resolved_chain_view, resolved_export_views}
 use Rattle.symbols_exports.specs.inner.Collecting.{ExportWalkView, ExportChain, name_of_view, has_name, has_statements, with_name, with_later_chain}
-use Rattle.symbols_exports.specs.inner.Collecting.{with_exporter, with_exporters, candidates_along, shared_groups_of, walk_with_exports_of_module}
-use Rattle.symbols_exports.proofs.ShadowedChains.{push_under, put_new}
+use Rattle.symbols_exports.specs.inner.Collecting.{is_along_stars, with_exporter, with_exporters, candidates_along, shared_groups_of}
+use Rattle.symbols_exports.specs.inner.Collecting.{walk_with_exports_of_module}
+use Rattle.symbols_exports.proofs.ShadowedChains.{push_under, explicit_stays, put_new}
 
 abbrev pub NameEntry : Type 0
 NameEntry = String Global × ResolvedExportOrReExportAllPath
@@ -82,21 +83,23 @@ had_name : (q : List ℕ) (entries : List NameEntry) (at : Bool) → is_some (lo
     → has_name (resolved_export_views entries) q ≡ at
 had_name q entries at is = sym (collected_is entries q) ∙ is
 
--- one more chain of a known name, if candidates are stored
+-- one more chain of a known name, if candidates are stored and the name comes along an `export *`
 pub with_other_trace : (re_exports : List (ModuleId × List ℕ)) (export : ResolvedExport) (entries : List NameEntry) (keeps : Bool) (lists after : List
-    (List ExportChain)) (unresolved : List (ModuleId × List ℕ)) (q : List ℕ) (cursor : ℕ) (path : ExportChain)
-    → (bytes_eq q default_export_name && has_statements re_exports) ≡ false → keeps ≡ true → Some cursor ≡ position (λ (key : String Global).
-    bytes_eq q (string_bytes key)) (keys_of entries) → is_some (lookup (λ (key : String Global). bytes_eq q (string_bytes key)) entries) ≡ true
+    (List ExportChain)) (unresolved : List (ModuleId × List ℕ)) (q : List ℕ) (cursor : ℕ) (first path : ExportChain)
+    → (bytes_eq q default_export_name && has_statements re_exports) ≡ false → keeps ≡ true
+    → Some cursor ≡ position (λ (key : String Global). bytes_eq q (string_bytes key)) (keys_of entries)
+    → lookup (λ (key : String Global). bytes_eq q (string_bytes key)) entries ≡ Some first → is_along_stars (resolved_chain_view q first) ≡ true
     → after ≡ with_later_chain cursor path lists → statements_of_chain path ≡ re_exports → resolved_export path ≡ export
     → walk_view entries keeps after unresolved
     ≡ walk_with_exports_of_module re_exports export.«module» ((q, export.symbol_id) ∷ []) (walk_view entries keeps lists unresolved)
-with_other_trace re_exports export entries keeps lists after unresolved q cursor path passes retained at has put along ends =
-    let had : has_name (resolved_export_views entries) q ≡ true = had_name q entries true has in
+with_other_trace re_exports export entries keeps lists after unresolved q cursor first path passes retained at has first_along put along ends =
+    let had : has_name (resolved_export_views entries) q ≡ true = had_name q entries true (ap is_some has) in
     let view : resolved_chain_view q path ≡ record { name = q; statements = re_exports; export = export } =
     (λ i. record { name = q; statements = along i; export = ends i }) in
-    let groups : shared_groups_of entries after ≡ with_exporter name_of_view (shared_groups_of entries lists)
+    let groups : shared_groups_of entries after ≡ with_exporter name_of_view is_along_stars (shared_groups_of entries lists)
     (record { name = q; statements = re_exports; export = export }) =
-    ap (shared_groups_of entries) put ∙ (push_under q path entries lists cursor at ∙ ap (with_exporter name_of_view (shared_groups_of entries lists)) view) in
+    ap (shared_groups_of entries) put ∙ (push_under q path first entries lists cursor at has first_along
+    ∙ ap (with_exporter name_of_view is_along_stars (shared_groups_of entries lists)) view) in
     λ i. record {
       keeps = keeps;
       collected = record {
@@ -106,7 +109,7 @@ with_other_trace re_exports export entries keeps lists after unresolved q cursor
       };
     }
   where
-    by : (b : Bool) → b ≡ true → shared_groups_of entries after ≡ with_exporter name_of_view (shared_groups_of entries lists) (record {
+    by : (b : Bool) → b ≡ true → shared_groups_of entries after ≡ with_exporter name_of_view is_along_stars (shared_groups_of entries lists) (record {
       name = q;
       statements = re_exports;
       export = export;
@@ -115,15 +118,15 @@ with_other_trace re_exports export entries keeps lists after unresolved q cursor
     by true is groups = rw passes groups
     by false is groups = absurd (true≢false (sym is))
 
--- one more chain of a known name, if candidates aren't stored
+-- a known name without one more chain: candidates aren't stored, or the name doesn't come along an `export *`
 pub without_other_trace : (re_exports : List (ModuleId × List ℕ)) (export : ResolvedExport) (entries : List NameEntry) (keeps : Bool) (lists : List
-    (List ExportChain)) (unresolved : List (ModuleId × List ℕ)) (q : List ℕ) → (bytes_eq q default_export_name && has_statements re_exports) ≡ false
-    → keeps ≡ false
-    → is_some (lookup (λ (key : String Global). bytes_eq q (string_bytes key)) entries) ≡ true
+    (List ExportChain)) (unresolved : List (ModuleId × List ℕ)) (q : List ℕ) (first : ExportChain)
+    → (bytes_eq q default_export_name && has_statements re_exports) ≡ false
+    → lookup (λ (key : String Global). bytes_eq q (string_bytes key)) entries ≡ Some first → (keeps && is_along_stars (resolved_chain_view q first)) ≡ false
     → walk_view entries keeps lists unresolved
     ≡ walk_with_exports_of_module re_exports export.«module» ((q, export.symbol_id) ∷ []) (walk_view entries keeps lists unresolved)
-without_other_trace re_exports export entries keeps lists unresolved q passes not_retained has =
-    let had : has_name (resolved_export_views entries) q ≡ true = had_name q entries true has in
+without_other_trace re_exports export entries keeps lists unresolved q first passes has not_retained =
+    let had : has_name (resolved_export_views entries) q ≡ true = had_name q entries true (ap is_some has) in
     λ i. record {
       keeps = keeps;
       collected = record {
@@ -133,9 +136,14 @@ without_other_trace re_exports export entries keeps lists unresolved q passes no
       };
     }
   where
-    by : (b : Bool) → b ≡ false → (if b then shared_groups_of entries lists else []) ≡ (if b then with_exporters (if b then shared_groups_of entries lists
+    stays : is_along_stars (resolved_chain_view q first) ≡ false → shared_groups_of entries lists
+        ≡ with_exporter name_of_view is_along_stars (shared_groups_of entries lists) (record { name = q; statements = re_exports; export = export })
+    stays explicit = explicit_stays q re_exports export first explicit entries lists has
+
+    by : (b : Bool) → (b && is_along_stars (resolved_chain_view q first)) ≡ false → (if b then shared_groups_of entries lists else [])
+        ≡ (if b then with_exporters (if b then shared_groups_of entries lists
         else []) (candidates_along re_exports export.«module» ((q, export.symbol_id) ∷ [])) else (if b then shared_groups_of entries lists else []))
-    by true is = absurd (true≢false is)
+    by true is = rw passes (stays is)
     by false is = refl
 
 -- the first chain of a name
@@ -151,10 +159,10 @@ with_first_trace re_exports export entries after keeps lists unresolved q key pa
     let new : has_name (resolved_export_views entries) q ≡ false = had_name q entries false lacks in
     let view : resolved_chain_view q path ≡ record { name = q; statements = re_exports; export = export } =
     (λ i. record { name = q; statements = along i; export = ends i }) in
-    let groups : shared_groups_of after lists ≡ with_exporter name_of_view (shared_groups_of entries lists)
+    let groups : shared_groups_of after lists ≡ with_exporter name_of_view is_along_stars (shared_groups_of entries lists)
     (record { name = q; statements = re_exports; export = export }) =
     ap (λ es. shared_groups_of es lists) inserted
-    ∙ (put_new q path entries lists key few lacks called ∙ ap (with_exporter name_of_view (shared_groups_of entries lists)) view) in
+    ∙ (put_new q path entries lists key few lacks called ∙ ap (with_exporter name_of_view is_along_stars (shared_groups_of entries lists)) view) in
     λ i. record {
       keeps = keeps;
       collected = record {
@@ -165,7 +173,7 @@ with_first_trace re_exports export entries after keeps lists unresolved q key pa
     }
   where
     by : (b : Bool)
-        → shared_groups_of after lists ≡ with_exporter name_of_view (shared_groups_of entries lists)
+        → shared_groups_of after lists ≡ with_exporter name_of_view is_along_stars (shared_groups_of entries lists)
         (record { name = q; statements = re_exports; export = export })
         → (if b then shared_groups_of after lists else []) ≡ (if b then with_exporters (if b then shared_groups_of entries lists
         else []) (candidates_along re_exports export.«module» ((q, export.symbol_id) ∷ [])) else (if b then shared_groups_of entries lists else []))

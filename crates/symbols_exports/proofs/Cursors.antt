@@ -6,7 +6,7 @@ use Rattle.std.proofs.lemmas.List.{take_all, length_push, take-append-le}
 use Rattle.std.proofs.lemmas.List.Elements.{Contains-push, Contains-push_cases, Contains-append_left, Contains-get_or}
 use Rattle.std.proofs.lemmas.List.Quantifiers.{all_pairs_push}
 use Rattle.std.proofs.lemmas.Option.{same_Some}
-use Rattle.symbols_exports.specs.Chains.{StarTargets, star_target_at, chain_end_module, IsSimpleChain, IsChainBefore, IsChainUpTo}
+use Rattle.symbols_exports.specs.Chains.{StarTargets, star_target_at, chain_end_module, IsSimpleChain, IsChainBefore, IsChainBeforeOrEqual}
 use Rattle.symbols_exports.proofs.ChainOrder.{before_then_before, before_after, between_neighbours, between_module_and_next}
 use Rattle.symbols_exports.proofs.ChainEnds.{goes_further}
 
@@ -19,7 +19,7 @@ VisitsInOrder x y = IsChainBefore x.0 y.0
 
 -- the module was visited by this chain or an earlier one
 abbrev pub IsVisitedUpTo : List Visit → List ℕ → List ℕ → Type 0
-IsVisitedUpTo visited u chain = (c : List ℕ) × Contains visited (c, u) × IsChainUpTo c chain
+IsVisitedUpTo visited u chain = (c : List ℕ) × Contains visited (c, u) × IsChainBeforeOrEqual c chain
 
 -- all before the cursor is done: each visited module has its statements before the cursor followed, and no visit is after it
 pub record OccursAt (statements : StarTargets) (start : List ℕ) (cursor : List ℕ) (visited : List Visit) : Type 0 where
@@ -118,7 +118,8 @@ pub occurs_first : (statements : StarTargets) (start : List ℕ) → OccursAt st
 occurs_first statements start = record {
   begun = Contains-push [] ([], start);
   before = λ c u cu. rw (← (start_alone start c u cu).0) tt;
-  are_chains = λ c u cu. let same = start_alone start c u cu in rw (← same.0, ← same.1) (record { ends_at = refl; once = λ j k j_in k_in e. omega arith });
+  are_chains = λ c u cu. let same = start_alone start c u cu in rw (← same.0, ← same.1)
+      (record { ends_at = refl; has_no_duplicates = λ j k j_in k_in e. omega arith });
   visited_once = λ c d u cu du. sym (start_alone start c u cu).0 ∙ (start_alone start d u du).0;
   along = λ c u cu k k_in. (start, rw (← (start_alone start c u cu).0) (rw (nothing_collected k) (Contains-push [] ([], start))));
   followed = λ c u v k cu before next. absurd (not_before_first [] k (rw (← (start_alone start c u cu).0) at before));
@@ -182,7 +183,7 @@ module _ (statements : StarTargets) (start q u v : List ℕ) (i : ℕ) (visited 
   it_comes_once j k j_in k_in same = by_parts (part_of q i j j_in) (part_of q i k k_in)
     where
       by_parts : IsPart q i j → IsPart q i k → j ≡ k
-      by_parts (inl a) (inl b) = (occurs.are_chains q u here).once j k a.0 b.0 (rw (a.1, b.1) at same)
+      by_parts (inl a) (inl b) = (occurs.are_chains q u here).has_no_duplicates j k a.0 b.0 (rw (a.1, b.1) at same)
       by_parts (inl a) (inr b) = absurd (comes_by_no j a.0 (rw (a.1, b.1) at same ∙ it_ends))
       by_parts (inr a) (inl b) = absurd (comes_by_no k b.0 (sym (rw (a.1, b.1) at same) ∙ it_ends))
       by_parts (inr a) (inr b) = a.0 ∙ sym b.0
@@ -197,7 +198,7 @@ module _ (statements : StarTargets) (start q u v : List ℕ) (i : ℕ) (visited 
   are_chains_entered c w cw = elim (was_or_is c w cw) [
     | inl was ↦ occurs.are_chains c w was
     | inr is ↦ subst (IsSimpleChain statements start c) is.1 (subst (λ x. IsSimpleChain statements start x v) is.0
-        (record { ends_at = it_ends; once = it_comes_once }))
+        (record { ends_at = it_ends; has_no_duplicates = it_comes_once }))
   ]
 
   visited_once_entered : (c d w : List ℕ) → Contains more (c, w) → Contains more (d, w) → c ≡ d

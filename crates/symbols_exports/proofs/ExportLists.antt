@@ -11,10 +11,11 @@ use Rattle.std.proofs.lemmas.List.Elements.{Contains-append_left, Contains-appen
 use Rattle.symbols_ast.specs.declared.ids.SymbolId.{SymbolId}
 use Rattle.symbols_ast.specs.Graph.{GraphView}
 use Rattle.symbols_table.specs.Events.{default_export_name}
-use Rattle.symbols_exports.specs.Chains.{chain_end_module, IsChainBefore, IsChainUpTo}
+use Rattle.symbols_exports.specs.Chains.{chain_end_module, IsChainBefore, IsChainBeforeOrEqual}
 use Rattle.symbols_exports.specs.Exports.{ExplicitExports, ExportEntry, IsExportCandidate, IsExport, IsListedBefore, IsExportEntryBefore, AreExports}
 use Rattle.symbols_exports.specs.StarStatements.{star_targets_of, explicit_exports_of}
-use Rattle.symbols_exports.specs.Traces.{StarTrace, traces_of, is_passed_by_chain, export_candidates_along_chain, candidates_of_trace, is_same_export_name}
+use Rattle.symbols_exports.specs.Traces.{StarWalkVisit, star_walk_visits_of, is_re_exported_along_chain, export_candidates_along_chain}
+use Rattle.symbols_exports.specs.Traces.{export_candidates_at_visit, is_same_export_name}
 use Rattle.symbols_exports.specs.Traces.{exports_of}
 use Rattle.symbols_exports.proofs.DistinctNames.{exports_once, explicit_cursor}
 use Rattle.symbols_exports.proofs.TraceLists.{arrives, arrival_there}
@@ -50,11 +51,12 @@ flat_sorted {A} {B} R S f each across (x ∷ xs) sorted = sorted_both S (f x) (f
 
 -- ---- the candidates of a trace
 
-pub passes : (chain : List ℕ) (exported : List ℕ × SymbolId) → is_passed_by_chain chain exported ≡ true → exported.0 ≡ default_export_name → chain ≡ []
+pub passes : (chain : List ℕ) (exported : List ℕ × SymbolId) → is_re_exported_along_chain chain exported ≡ true → exported.0 ≡ default_export_name → chain ≡ []
 passes [] exported is same = refl
 passes (k ∷ chain) exported is same = absurd (true≢false (sym is ∙ ap not (subst (λ q. bytes_eq exported.0 q ≡ true) same (nat_list_eq_equiv.refl exported.0))))
 
-pub is_passed : (chain : List ℕ) (exported : List ℕ × SymbolId) → (exported.0 ≡ default_export_name → chain ≡ []) → is_passed_by_chain chain exported ≡ true
+pub is_passed : (chain : List ℕ) (exported : List ℕ × SymbolId) → (exported.0 ≡ default_export_name → chain ≡ []) → is_re_exported_along_chain chain exported
+    ≡ true
 is_passed [] exported passed = refl
 is_passed (k ∷ chain) exported passed = by (bytes_eq exported.0 default_export_name) refl
   where
@@ -78,7 +80,8 @@ occurs_before xs i j d less within = (j, slice_get-get_or xs j d within, front x
     front (y ∷ ys) (suc n) (suc k) e below short = contains_later y (take n ys) (get_or ys k e) (front ys n k e (omega (arith, below)) (omega (arith, short)))
 
 module _ (explicit : ExplicitExports) where
-  pub candidate_from : (w : StarTrace) (e : ExportEntry) → Contains (candidates_of_trace explicit w) e → (w.unresolved_at ≡ None) × (e.chain ≡ w.chain)
+  pub candidate_from : (w : StarWalkVisit) (e : ExportEntry) → Contains (export_candidates_at_visit explicit w) e → (w.unresolved_at ≡ None) ×
+      (e.chain ≡ w.chain)
       × (e.exporter ≡ w.end) × Contains (explicit w.end) (e.name, e.symbol) × (e.name ≡ default_export_name → w.chain ≡ [])
   candidate_from w e has = by w.unresolved_at refl has
     where
@@ -88,20 +91,22 @@ module _ (explicit : ExplicitExports) where
           × (e.name ≡ default_export_name → w.chain ≡ [])
       by (Some k) is none = absurd (contains_nothing e none)
       by None is some =
-          let from = mapped_from (entry_by w.chain w.end) (filter (is_passed_by_chain w.chain) (explicit w.end)) e some in
-          let retained = filtered_from (is_passed_by_chain w.chain) (explicit w.end) from.0 from.1 in
+          let from = mapped_from (entry_by w.chain w.end) (filter (is_re_exported_along_chain w.chain) (explicit w.end)) e some in
+          let retained = filtered_from (is_re_exported_along_chain w.chain) (explicit w.end) from.0 from.1 in
           subst (λ (x : ExportEntry). (w.unresolved_at ≡ None) × (x.chain ≡ w.chain) × (x.exporter ≡ w.end) × Contains (explicit w.end) (x.name, x.symbol)
           × (x.name ≡ default_export_name → w.chain ≡ [])) from.2
           (is, refl, refl, retained.0, passes w.chain from.0 retained.1)
 
   pub candidate_there : (chain end name : List ℕ) (symbol : SymbolId) → Contains (explicit end) (name, symbol) → (name ≡ default_export_name → chain ≡ [])
-      → Contains (candidates_of_trace explicit
+      → Contains (export_candidates_at_visit explicit
       (record { chain = chain; end = end; unresolved_at = None })) (record { name = name; chain = chain; exporter = end; symbol = symbol })
-  candidate_there chain end name symbol exports_name passed = contains_mapped (entry_by chain end) (filter (is_passed_by_chain chain) (explicit end))
+  candidate_there chain end name symbol exporter_exports_name_explicitly passed = contains_mapped (entry_by chain end)
+      (filter (is_re_exported_along_chain chain) (explicit end))
       (name, symbol)
-      (contains_filtered (is_passed_by_chain chain) (explicit end) (name, symbol) exports_name (is_passed chain (name, symbol) passed))
+      (contains_filtered (is_re_exported_along_chain chain) (explicit end) (name, symbol) exporter_exports_name_explicitly
+      (is_passed chain (name, symbol) passed))
 
-  pub candidate_sorted : (w : StarTrace) → IsSorted (IsExportEntryBefore explicit) (candidates_of_trace explicit w)
+  pub candidate_sorted : (w : StarWalkVisit) → IsSorted (IsExportEntryBefore explicit) (export_candidates_at_visit explicit w)
   candidate_sorted w = by w.unresolved_at
     where
       in_order : (x y : List ℕ × SymbolId) → IsListedBefore (explicit w.end) x y
@@ -112,12 +117,12 @@ module _ (explicit : ExplicitExports) where
           → IsSorted (IsExportEntryBefore explicit) (option_map_or (λ (k : ℕ). []) unresolved_at (export_candidates_along_chain w.chain w.end (explicit w.end)))
       by (Some k) = tt
       by None = sorted_map (IsListedBefore (explicit w.end)) (IsExportEntryBefore explicit) (entry_by w.chain w.end) in_order
-          (filter (is_passed_by_chain w.chain) (explicit w.end))
-          (sorted_filter (IsListedBefore (explicit w.end)) (is_passed_by_chain w.chain) (explicit w.end)
+          (filter (is_re_exported_along_chain w.chain) (explicit w.end))
+          (sorted_filter (IsListedBefore (explicit w.end)) (is_re_exported_along_chain w.chain) (explicit w.end)
           (pairs_sorted (IsListedBefore (explicit w.end)) (explicit w.end) (occurs_before (explicit w.end))))
 
-  candidate_across : (x y : StarTrace) → ComesBefore x y → (a b : ExportEntry) → Contains (candidates_of_trace explicit x) a
-      → Contains (candidates_of_trace explicit y) b
+  candidate_across : (x y : StarWalkVisit) → ComesBefore x y → (a b : ExportEntry) → Contains (export_candidates_at_visit explicit x) a
+      → Contains (export_candidates_at_visit explicit y) b
       → IsExportEntryBefore explicit a b
   candidate_across x y before a b has_a has_b =
       let from_a = candidate_from x a has_a in
@@ -150,29 +155,30 @@ both_traces xs cursor a b before following =
 
 module _ (graph : GraphView) (start : List ℕ) where
   abbrev candidates : List ExportEntry
-  candidates = flat_map (candidates_of_trace (explicit_exports_of graph)) (traces_of graph start)
+  candidates = flat_map (export_candidates_at_visit (explicit_exports_of graph)) (star_walk_visits_of graph start)
 
   candidates_sorted : IsSorted (IsExportEntryBefore (explicit_exports_of graph)) candidates
-  candidates_sorted = flat_sorted ComesBefore (IsExportEntryBefore (explicit_exports_of graph)) (candidates_of_trace (explicit_exports_of graph))
-      (candidate_sorted (explicit_exports_of graph)) (candidate_across (explicit_exports_of graph)) (traces_of graph start)
+  candidates_sorted = flat_sorted ComesBefore (IsExportEntryBefore (explicit_exports_of graph)) (export_candidates_at_visit (explicit_exports_of graph))
+      (candidate_sorted (explicit_exports_of graph)) (candidate_across (explicit_exports_of graph)) (star_walk_visits_of graph start)
       (traces_sorted (star_targets_of graph) (length graph.modules + 1) [] start)
 
   is_candidate : (e : ExportEntry) → Contains candidates e → IsExportCandidate (star_targets_of graph) (explicit_exports_of graph) start e
   is_candidate e has =
-      let from = flat_from (candidates_of_trace (explicit_exports_of graph)) (traces_of graph start) e has in
+      let from = flat_from (export_candidates_at_visit (explicit_exports_of graph)) (star_walk_visits_of graph start) e has in
       let by = candidate_from (explicit_exports_of graph) from.0 e from.2 in
       let trace : from.0 ≡ record { chain = e.chain; end = e.exporter; unresolved_at = None } =
       (λ i. record { chain = sym by.1 i; end = sym by.2 i; unresolved_at = by.0 i }) in
       record {
-        ends_at = arrives graph start e.chain e.exporter (subst (Contains (traces_of graph start)) trace from.1);
-        exports_name = subst (λ u. Contains (explicit_exports_of graph u) (e.name, e.symbol)) (sym by.2) by.3;
-        passed = λ same. by.1 ∙ by.4 same;
+        ends_at = arrives graph start e.chain e.exporter (subst (Contains (star_walk_visits_of graph start)) trace from.1);
+        exporter_exports_name_explicitly = subst (λ u. Contains (explicit_exports_of graph u) (e.name, e.symbol)) (sym by.2) by.3;
+        default_has_empty_chain = λ same. by.1 ∙ by.4 same;
       }
 
   candidate_is_there : (e : ExportEntry) → IsExportCandidate (star_targets_of graph) (explicit_exports_of graph) start e → Contains candidates e
-  candidate_is_there e one_candidate = contains_flat (candidates_of_trace (explicit_exports_of graph)) (traces_of graph start)
+  candidate_is_there e one_candidate = contains_flat (export_candidates_at_visit (explicit_exports_of graph)) (star_walk_visits_of graph start)
       (record { chain = e.chain; end = e.exporter; unresolved_at = None }) e (arrival_there graph start e.chain e.exporter one_candidate.ends_at)
-      (candidate_there (explicit_exports_of graph) e.chain e.exporter e.name e.symbol one_candidate.exports_name one_candidate.passed)
+      (candidate_there (explicit_exports_of graph) e.chain e.exporter e.name e.symbol one_candidate.exporter_exports_name_explicitly
+      one_candidate.default_has_empty_chain)
 
   abbrev name_of : ExportEntry → List ℕ
   name_of e = e.name
@@ -183,7 +189,7 @@ module _ (graph : GraphView) (start : List ℕ) where
       candidates
       candidates_sorted e (candidate_is_there e one_candidate)
 
-  pub up_to : (f e : ExportEntry) → (f ≡ e) ⊎ IsExportEntryBefore (explicit_exports_of graph) f e → IsChainUpTo f.chain e.chain
+  pub up_to : (f e : ExportEntry) → (f ≡ e) ⊎ IsExportEntryBefore (explicit_exports_of graph) f e → IsChainBeforeOrEqual f.chain e.chain
   up_to f e (inl same) = inl (ap (λ (x : ExportEntry). x.chain) same)
   up_to f e (inr (inl before)) = inr before
   up_to f e (inr (inr along)) = inl along.0
@@ -195,12 +201,12 @@ module _ (graph : GraphView) (start : List ℕ) where
   is_export e has = record { candidate = was_candidate e has; least = least }
     where
       least : (other : ExportEntry) → IsExportCandidate (star_targets_of graph) (explicit_exports_of graph) start other → other.name ≡ e.name
-          → IsChainUpTo e.chain other.chain
+          → IsChainBeforeOrEqual e.chain other.chain
       least other one_candidate same =
           let first = covered other one_candidate in
           let is_e : first.0 ≡ e = first_once is_same_export_name name_of (λ x y. bytes_eq-Decides x.name y.name) candidates first.0 e first.1 has
           (first.2 ∙ same) in
-          subst (λ (x : ExportEntry). IsChainUpTo x.chain other.chain) is_e (up_to first.0 other first.3)
+          subst (λ (x : ExportEntry). IsChainBeforeOrEqual x.chain other.chain) is_e (up_to first.0 other first.3)
 
   is_listed : (e : ExportEntry) → IsExport (star_targets_of graph) (explicit_exports_of graph) start e → Contains (exports_of graph start) e
   is_listed e export = by (covered e export.candidate)
@@ -215,7 +221,8 @@ module _ (graph : GraphView) (start : List ℕ) where
           ∙ (ap (chain_end_module (star_targets_of graph) start) chains ∙ export.candidate.ends_at.ends_at)) in
           let symbols : f.symbol ≡ e.symbol = exports_once graph e.exporter e.name f.symbol e.symbol (subst
           (λ q. Contains (explicit_exports_of graph e.exporter) (q, f.symbol)) same
-          (subst (λ u. Contains (explicit_exports_of graph u) (f.name, f.symbol)) exporters one_candidate.exports_name)) export.candidate.exports_name in
+          (subst (λ u. Contains (explicit_exports_of graph u)
+          (f.name, f.symbol)) exporters one_candidate.exporter_exports_name_explicitly)) export.candidate.exporter_exports_name_explicitly in
           λ i. record { name = same i; chain = chains i; exporter = exporters i; symbol = symbols i }
 
       by : (f : ExportEntry) × Contains (exports_of graph start) f × (f.name ≡ e.name) × ((f ≡ e) ⊎ IsExportEntryBefore (explicit_exports_of graph) f e)

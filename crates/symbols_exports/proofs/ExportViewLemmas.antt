@@ -15,7 +15,7 @@ use Rattle.symbols_exports.specs.StarStatements.{star_targets_of}
 use Rattle.symbols_exports.specs.CollectedNames.{ResolvedExportView}
 use Rattle.symbols_exports.specs.inner.Collecting.{has_name, has_statements, with_name, with_names}
 use Rattle.symbols_exports.specs.ExportViews.{StarStatementView, star_statement_view, chain_statements, star_statement_by_specifier}
-use Rattle.symbols_exports.specs.ExportViews.{export_by_specifier, AreStatementsStored, IsExportStored, AreExportsStored}
+use Rattle.symbols_exports.specs.ExportViews.{export_by_specifier, AreReferrersOfStarsStored, AreModulesOfExportStored, AreModulesOfExportsStored}
 use Rattle.symbols_exports.proofs.IdsInGrownRoots.{number_retained, still_within, same_under}
 use Rattle.symbols_exports.proofs.SortedLists.{short_or_last}
 
@@ -43,35 +43,37 @@ viewed_pop graph start end chain k viewed last ends_at same = (same_from_push (c
 
 -- ---- numbers of stored modules
 
-pub none_numbered : (root : RootView) → AreStatementsStored root []
+pub none_numbered : (root : RootView) → AreReferrersOfStarsStored root []
 none_numbered root i d within = absurd (omega (arith, within))
 
-pub no_names_numbered : (root : RootView) → AreExportsStored root []
+pub no_names_numbered : (root : RootView) → AreModulesOfExportsStored root []
 no_names_numbered root i d within = absurd (omega (arith, within))
 
-pub numbered_push : (root : RootView) (statements : List (ModuleId × List ℕ)) (statement : ModuleId × List ℕ) → AreStatementsStored root statements
-    → statement.0.0 < length root.stored → AreStatementsStored root (statements ++ statement ∷ [])
+pub numbered_push : (root : RootView) (statements : List (ModuleId × List ℕ)) (statement : ModuleId × List ℕ) → AreReferrersOfStarsStored root statements
+    → statement.0.0 < length root.stored → AreReferrersOfStarsStored root (statements ++ statement ∷ [])
 numbered_push root statements statement are within i d i_in = elim (short_or_last statements statement i i_in) [
   | inl short ↦ rw (get_or_append_left statements (statement ∷ []) d i short) (are i d short)
   | inr last ↦ rw (get_or_push statements statement d i last) within
 ]
 
-pub names_push : (root : RootView) (names : List ResolvedExportView) (name : ResolvedExportView) → AreExportsStored root names → IsExportStored root name
-    → AreExportsStored root (names ++ name ∷ [])
+pub names_push : (root : RootView) (names : List ResolvedExportView) (name : ResolvedExportView) → AreModulesOfExportsStored root names
+    → AreModulesOfExportStored root name
+    → AreModulesOfExportsStored root (names ++ name ∷ [])
 names_push root names name are is i d i_in = elim (short_or_last names name i i_in) [
   | inl short ↦ rw (get_or_append_left names (name ∷ []) d i short) (are i d short)
   | inr last ↦ rw (get_or_push names name d i last) is
 ]
 
 -- collected names with numbers of stored modules
-pub collected_numbered : (root : RootView) (re_exports : List (ModuleId × List ℕ)) (exporter : ModuleId) → AreStatementsStored root re_exports → exporter.0
-    < length root.stored → (exported : List (List ℕ × SymbolId)) (names : List ResolvedExportView) → AreExportsStored root names
-    → AreExportsStored root (with_names re_exports exporter exported names)
+pub collected_numbered : (root : RootView) (re_exports : List (ModuleId × List ℕ)) (exporter : ModuleId) → AreReferrersOfStarsStored root re_exports
+    → exporter.0
+    < length root.stored → (exported : List (List ℕ × SymbolId)) (names : List ResolvedExportView) → AreModulesOfExportsStored root names
+    → AreModulesOfExportsStored root (with_names re_exports exporter exported names)
 collected_numbered root re_exports exporter trace_in exporter_in [] names are = are
 collected_numbered root re_exports exporter trace_in exporter_in (x ∷ exported) names are = collected_numbered root re_exports exporter trace_in exporter_in
     exported (with_name re_exports exporter names x) (by ((bytes_eq x.0 default_export_name && has_statements re_exports) || has_name names x.0))
   where
-    by : (b : Bool) → AreExportsStored root (if b then names
+    by : (b : Bool) → AreModulesOfExportsStored root (if b then names
         else names ++ record { name = x.0; statements = re_exports; export = record { «module» = exporter; symbol_id = x.1 } } ∷ [])
     by true = are
     by false = names_push root names (record { name = x.0; statements = re_exports; export = record { «module» = exporter; symbol_id = x.1 } }) are
@@ -80,18 +82,20 @@ collected_numbered root re_exports exporter trace_in exporter_in (x ∷ exported
 -- ---- the views stay the same in a root that stores more
 
 module _ (root : RootView) (needed : Option (List ℕ)) where
-  pub statements_retained : (statements : List (ModuleId × List ℕ)) → AreStatementsStored root statements
+  pub statements_retained : (statements : List (ModuleId × List ℕ)) → AreReferrersOfStarsStored root statements
       → map (star_statement_by_specifier (with_stored_module root needed)) statements ≡ map (star_statement_by_specifier root) statements
   statements_retained statements are = same_under (star_statement_by_specifier (with_stored_module root needed)) (star_statement_by_specifier root)
       (λ (statement : ModuleId × List ℕ).
       statement.0.0 < length root.stored) (λ statement within. ap (λ (specifier : List ℕ). let viewed : StarStatementView = (specifier, statement.1) in viewed)
       (number_retained root needed statement.0 within)) statements are
 
-  pub names_retained : (names : List ResolvedExportView) → AreExportsStored root names
+  pub names_retained : (names : List ResolvedExportView) → AreModulesOfExportsStored root names
       → map (export_by_specifier (with_stored_module root needed)) names ≡ map (export_by_specifier root) names
-  names_retained names are = same_under (export_by_specifier (with_stored_module root needed)) (export_by_specifier root) (IsExportStored root) one names are
+  names_retained names are = same_under (export_by_specifier (with_stored_module root needed)) (export_by_specifier root)
+      (AreModulesOfExportStored root) one names are
     where
-      one : (name : ResolvedExportView) → IsExportStored root name → export_by_specifier (with_stored_module root needed) name ≡ export_by_specifier root name
+      one : (name : ResolvedExportView) → AreModulesOfExportStored root name → export_by_specifier (with_stored_module root needed) name
+          ≡ export_by_specifier root name
       one name is = λ i. record {
         name = name.name;
         statements = statements_retained name.statements is.statements_are_stored i;
@@ -99,11 +103,11 @@ module _ (root : RootView) (needed : Option (List ℕ)) where
         symbol = name.export.symbol_id;
       }
 
-  pub numbered_still : (statements : List (ModuleId × List ℕ)) → AreStatementsStored root statements
-      → AreStatementsStored (with_stored_module root needed) statements
+  pub numbered_still : (statements : List (ModuleId × List ℕ)) → AreReferrersOfStarsStored root statements
+      → AreReferrersOfStarsStored (with_stored_module root needed) statements
   numbered_still statements are i d within = still_within root needed (get_or statements i d).0.0 (are i d within)
 
-  pub names_still : (names : List ResolvedExportView) → AreExportsStored root names → AreExportsStored (with_stored_module root needed) names
+  pub names_still : (names : List ResolvedExportView) → AreModulesOfExportsStored root names → AreModulesOfExportsStored (with_stored_module root needed) names
   names_still names are i d within =
       let is = are i d within in
       record {

@@ -7,7 +7,7 @@ use Rattle.std.proofs.lemmas.List.Elements.{Contains-push, Contains-push_cases, 
 use Rattle.std.proofs.lemmas.List.Quantifiers.{all_pairs_push}
 use Rattle.symbols_ast.specs.declared.ids.SymbolId.{SymbolId}
 use Rattle.symbols_table.specs.Events.{default_export_name}
-use Rattle.symbols_exports.specs.Chains.{StarTargets, chain_end_module, IsChainBefore, IsChainUpTo, AreReachedByStars}
+use Rattle.symbols_exports.specs.Chains.{StarTargets, chain_end_module, IsChainBefore, IsChainBeforeOrEqual, AreReachedByStars}
 use Rattle.symbols_exports.specs.Exports.{ExplicitExports, ExportEntry, IsExportCandidate, IsExport, IsExportEntryBefore, AreExports}
 use Rattle.symbols_exports.proofs.ChainOrder.{up_to_then_up_to, same_both_traces, up_to_nothing}
 use Rattle.symbols_exports.proofs.Cursors.{Visit}
@@ -28,9 +28,9 @@ IsSeen explicit visited now k entry =
 -- the found entries: the first of each name among the seen entries that the chain re-exports
 pub record AreFound (explicit : ExplicitExports) (visited : List Visit) (now : Visit) (k : ℕ) (found : List ExportEntry) : Type 0 where
   pub seen : (entry : ExportEntry) → Contains found entry → IsSeen explicit visited now k entry
-  pub passed : (entry : ExportEntry) → Contains found entry → IsPassed entry
+  pub default_has_empty_chain : (entry : ExportEntry) → Contains found entry → IsPassed entry
   pub covers : (entry : ExportEntry) → IsSeen explicit visited now k entry → IsPassed entry
-      → (first : ExportEntry) × Contains found first × (first.name ≡ entry.name) × IsChainUpTo first.chain entry.chain
+      → (first : ExportEntry) × Contains found first × (first.name ≡ entry.name) × IsChainBeforeOrEqual first.chain entry.chain
   pub named_once : (x y : ExportEntry) → Contains found x → Contains found y → x.name ≡ y.name → x ≡ y
   pub ordered : AllPairs (IsExportEntryBefore explicit) found
 
@@ -41,7 +41,7 @@ take_to_next xs k x at = take_more xs k x (slice_get_within xs k x at) ∙ ap (�
 pub nothing_found : (explicit : ExplicitExports) (now : Visit) → AreFound explicit [] now 0 []
 nothing_found explicit now = record {
   seen = λ entry at. absurd (omega (arith, at.1));
-  passed = λ entry at. absurd (omega (arith, at.1));
+  default_has_empty_chain = λ entry at. absurd (omega (arith, at.1));
   covers = λ entry seen passes. absurd (unseen entry seen);
   named_once = λ x y at_x at_y same. absurd (omega (arith, at_x.1));
   ordered = λ i j d less within. absurd (omega (arith, within));
@@ -73,7 +73,7 @@ module _ (explicit : ExplicitExports) (visited : List Visit) (now : Visit) (k : 
     | inr last ↦ inr (λ i. record { name = (last i).0; chain = sym here.0 i; exporter = sym here.1 i; symbol = (last i).1 })
   ]
 
-  chain_up_to_now : (entry : ExportEntry) → Contains found entry → IsChainUpTo entry.chain now.0
+  chain_up_to_now : (entry : ExportEntry) → Contains found entry → IsChainBeforeOrEqual entry.chain now.0
   chain_up_to_now entry at = elim (are.seen entry at) [
     | inl was ↦ inr (following entry.chain entry.exporter was.0)
     | inr here ↦ inl here.0
@@ -83,26 +83,26 @@ module _ (explicit : ExplicitExports) (visited : List Visit) (now : Visit) (k : 
   pub name_passed_over : (IsPassed this → (first : ExportEntry) × Contains found first × (first.name ≡ name)) → AreFound explicit visited now (k + 1) found
   name_passed_over had = record {
     seen = λ entry at. still_seen entry (are.seen entry at);
-    passed = are.passed;
+    default_has_empty_chain = are.default_has_empty_chain;
     covers = λ entry seen passes. covers entry passes (was_seen_or_this entry seen);
     named_once = are.named_once;
     ordered = are.ordered;
   }
     where
       covers : (entry : ExportEntry) → IsPassed entry → IsSeen explicit visited now k entry ⊎ (this ≡ entry)
-          → (first : ExportEntry) × Contains found first × (first.name ≡ entry.name) × IsChainUpTo first.chain entry.chain
+          → (first : ExportEntry) × Contains found first × (first.name ≡ entry.name) × IsChainBeforeOrEqual first.chain entry.chain
       covers entry passes (inl seen) = are.covers entry seen passes
       covers entry passes (inr same) =
           let first = had (subst IsPassed (sym same) passes) in
           subst (λ (e : ExportEntry). (first : ExportEntry) × Contains found first × (first.name ≡ e.name)
-          × IsChainUpTo first.chain e.chain) same (first.0, first.1, first.2, chain_up_to_now first.0 first.1)
+          × IsChainBeforeOrEqual first.chain e.chain) same (first.0, first.1, first.2, chain_up_to_now first.0 first.1)
 
   -- a name that is re-exported and wasn't found before
   pub name_added : IsPassed this → ((first : ExportEntry) → Contains found first → first.name ≡ name → ⊥)
       → AreFound explicit visited now (k + 1) (found ++ this ∷ [])
   name_added passes new = record {
     seen = λ entry at. seen entry (Contains-push_cases found this entry at);
-    passed = λ entry at. passed entry (Contains-push_cases found this entry at);
+    default_has_empty_chain = λ entry at. passed entry (Contains-push_cases found this entry at);
     covers = λ entry seen passes. covers entry passes (was_seen_or_this entry seen);
     named_once = λ x y at_x at_y same. named_once x y same (Contains-push_cases found this x at_x) (Contains-push_cases found this y at_y);
     ordered = all_pairs_push (IsExportEntryBefore explicit) found this are.ordered
@@ -115,11 +115,11 @@ module _ (explicit : ExplicitExports) (visited : List Visit) (now : Visit) (k : 
           (inr (refl, refl, rw collected (Contains-push (take k (explicit now.1)) (name, symbol))))
 
       passed : (entry : ExportEntry) → Contains found entry ⊎ (this ≡ entry) → IsPassed entry
-      passed entry (inl at) = are.passed entry at
+      passed entry (inl at) = are.default_has_empty_chain entry at
       passed entry (inr same) = subst IsPassed same passes
 
       covers : (entry : ExportEntry) → IsPassed entry → IsSeen explicit visited now k entry ⊎ (this ≡ entry)
-          → (first : ExportEntry) × Contains (found ++ this ∷ []) first × (first.name ≡ entry.name) × IsChainUpTo first.chain entry.chain
+          → (first : ExportEntry) × Contains (found ++ this ∷ []) first × (first.name ≡ entry.name) × IsChainBeforeOrEqual first.chain entry.chain
       covers entry passes (inl seen) = let first = are.covers entry seen passes in
           (first.0, Contains-append_left found (this ∷ []) first.0 first.1, first.2, first.3)
       covers entry passes (inr same) = (this, Contains-push found this, ap (λ e. e.name) same, inl (ap (λ e. e.chain) same))
@@ -139,7 +139,7 @@ module _ (explicit : ExplicitExports) (visited : List Visit) (now : Visit) (k : 
 pub found_here : (explicit : ExplicitExports) (visited : List Visit) (now : Visit) (k : ℕ) (found : List ExportEntry) → AreFound explicit visited now 0 []
     → AreFound explicit visited now k found → (entry : ExportEntry) → Contains found entry → entry.chain ≡ now.0
 found_here explicit visited now k found nothing are entry at = elim (are.seen entry at) [
-  | inl was ↦ let first = nothing.covers entry (inl was) (are.passed entry at) in absurd (omega (arith, first.1.1))
+  | inl was ↦ let first = nothing.covers entry (inl was) (are.default_has_empty_chain entry at) in absurd (omega (arith, first.1.1))
   | inr here ↦ here.0
 ]
 
@@ -148,7 +148,7 @@ pub module_done : (explicit : ExplicitExports) (visited : List Visit) (now next 
     → AreFound explicit visited now k found → AreFound explicit (visited ++ now ∷ []) next 0 found
 module_done explicit visited now next k found ended are = record {
   seen = λ entry at. on entry (are.seen entry at);
-  passed = are.passed;
+  default_has_empty_chain = are.default_has_empty_chain;
   covers = λ entry seen passes. are.covers entry (back entry seen) passes;
   named_once = are.named_once;
   ordered = are.ordered;
@@ -191,33 +191,33 @@ module _ (statements : StarTargets) (explicit : ExplicitExports) (start : List �
   candidate : (entry : ExportEntry) → Contains found entry → IsExportCandidate statements explicit start entry
   candidate entry at = record {
     ends_at = ((reached.all entry.chain entry.exporter).0 (already_visited entry at).0).is_chain;
-    exports_name = (already_visited entry at).1;
-    passed = are.passed entry at;
+    exporter_exports_name_explicitly = (already_visited entry at).1;
+    default_has_empty_chain = are.default_has_empty_chain entry at;
   }
 
   -- for each candidate an entry of its name was found by no later a chain
   found_up_to : (other : ExportEntry) → IsExportCandidate statements explicit start other
-      → (first : ExportEntry) × Contains found first × (first.name ≡ other.name) × IsChainUpTo first.chain other.chain
+      → (first : ExportEntry) × Contains found first × (first.name ≡ other.name) × IsChainBeforeOrEqual first.chain other.chain
   found_up_to other one_candidate =
       let least = reached.reached other.exporter (other.chain, one_candidate.ends_at) in
       let up_to = ((reached.all least.0 other.exporter).0 least.1).least other.chain one_candidate.ends_at in
       let by : ExportEntry = record { name = other.name; chain = least.0; exporter = other.exporter; symbol = other.symbol } in
-      let first = are.covers by (inl (least.1, one_candidate.exports_name))
-      (λ e. up_to_nothing least.0 (subst (IsChainUpTo least.0) (one_candidate.passed e) up_to)) in
+      let first = are.covers by (inl (least.1, one_candidate.exporter_exports_name_explicitly))
+      (λ e. up_to_nothing least.0 (subst (IsChainBeforeOrEqual least.0) (one_candidate.default_has_empty_chain e) up_to)) in
       (first.0, first.1, first.2, up_to_then_up_to first.0.chain least.0 other.chain first.3 up_to)
 
   is_export : (entry : ExportEntry) → Contains found entry → IsExport statements explicit start entry
   is_export entry at = record { candidate = candidate entry at; least = least }
     where
-      least : (other : ExportEntry) → IsExportCandidate statements explicit start other → other.name ≡ entry.name → IsChainUpTo entry.chain other.chain
+      least : (other : ExportEntry) → IsExportCandidate statements explicit start other → other.name ≡ entry.name → IsChainBeforeOrEqual entry.chain other.chain
       least other one_candidate same =
           let first = found_up_to other one_candidate in
-          subst (λ x. IsChainUpTo x.chain other.chain) (are.named_once first.0 entry first.1 at (first.2 ∙ same)) first.3
+          subst (λ x. IsChainBeforeOrEqual x.chain other.chain) (are.named_once first.0 entry first.1 at (first.2 ∙ same)) first.3
 
   is_found : (entry : ExportEntry) → IsExport statements explicit start entry → Contains found entry
   is_found entry export = subst (Contains found) same first.1
     where
-      first : (first : ExportEntry) × Contains found first × (first.name ≡ entry.name) × IsChainUpTo first.chain entry.chain
+      first : (first : ExportEntry) × Contains found first × (first.name ≡ entry.name) × IsChainBeforeOrEqual first.chain entry.chain
       first = found_up_to entry export.candidate
 
       chains : first.0.chain ≡ entry.chain
@@ -229,7 +229,8 @@ module _ (statements : StarTargets) (explicit : ExplicitExports) (start : List �
 
       symbols : first.0.symbol ≡ entry.symbol
       symbols = explicit_once entry.exporter entry.name first.0.symbol entry.symbol (subst (λ x. Contains (explicit entry.exporter) (x, first.0.symbol)) first.2
-          (subst (λ u. Contains (explicit u) (first.0.name, first.0.symbol)) exporters (candidate first.0 first.1).exports_name)) export.candidate.exports_name
+          (subst (λ u. Contains (explicit u) (first.0.name, first.0.symbol)) exporters
+          (candidate first.0 first.1).exporter_exports_name_explicitly)) export.candidate.exporter_exports_name_explicitly
 
       same : first.0 ≡ entry
       same = λ i. record { name = first.2 i; chain = chains i; exporter = exporters i; symbol = symbols i }

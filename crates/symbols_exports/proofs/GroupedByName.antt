@@ -8,8 +8,8 @@ use Rattle.std.proofs.lemmas.List.Elements.{filter-append}
 use Rattle.std.proofs.lemmas.Slice.Eq.{bytes_eq-Decides}
 use Rattle.std.proofs.lemmas.Bool.{not-true}
 use Rattle.symbols_exports.specs.SharedNames.{NameWithExporters}
-use Rattle.symbols_exports.specs.SharedNameLists.{grouped_by_name, is_shared_group, shared_groups, shared_among}
-use Rattle.symbols_exports.specs.inner.Collecting.{with_exporter}
+use Rattle.symbols_exports.specs.SharedNameLists.{grouped_by_name, has_shared_exporters, groups_with_shared_exporters, shared_names_among}
+use Rattle.symbols_exports.specs.inner.Collecting.{with_exporter, with_later_exporter}
 use Rattle.symbols_exports.proofs.SortedLists.{IsSorted, first_or_later, contains_first, contains_later}
 use Rattle.symbols_exports.proofs.SortedLists.{contains_nothing, filtered_from, contains_filtered, sorted_filter}
 
@@ -36,6 +36,12 @@ left_out p x xs is = rw is refl
 -- x is the first of the list
 abbrev pub IsFirst : {A : Type 0} → A → List A → Type 0
 IsFirst {A} x xs = (rest : List A) × (xs ≡ x ∷ rest)
+
+-- the groups with one more element, after all those of its name
+abbrev pub with_member : {A : Type 0} → (A → List ℕ) → List (NameWithExporters A) → A → List (NameWithExporters A)
+with_member name [] x = record { name = name x; exporters = x ∷ [] } ∷ []
+with_member name (group ∷ groups) x = if bytes_eq (name x) group.name then record { name = group.name; exporters = group.exporters ++ x ∷ [] } ∷ groups
+    else group ∷ with_member name groups x
 
 module _ {A : Type 0} (name : A → List ℕ) where
   -- the exporters of a group are all that have its name, in order
@@ -115,59 +121,59 @@ module _ {A : Type 0} (name : A → List ℕ) where
 
   -- it is added to the group of its name, which is left out as a whole
   left_out_too : (q : List ℕ) (groups : List (NameWithExporters A)) (x : A) → bytes_eq q (name x) ≡ true
-      → shadowed_than q (with_exporter name groups x) ≡ shadowed_than q groups
+      → shadowed_than q (with_member name groups x) ≡ shadowed_than q groups
   left_out_too q [] x is = left_out (λ (g : NameWithExporters A). not (bytes_eq q g.name)) (record { name = name x; exporters = x ∷ [] }) [] (ap not is)
   left_out_too q (g ∷ groups) x is = by (bytes_eq (name x) g.name) refl (left_out_too q groups x is)
     where
-      by : (b : Bool) → bytes_eq (name x) g.name ≡ b → shadowed_than q (with_exporter name groups x) ≡ shadowed_than q groups → shadowed_than q (if b
-          then record { name = g.name; exporters = g.exporters ++ x ∷ [] } ∷ groups else g ∷ with_exporter name groups x) ≡ shadowed_than q (g ∷ groups)
+      by : (b : Bool) → bytes_eq (name x) g.name ≡ b → shadowed_than q (with_member name groups x) ≡ shadowed_than q groups → shadowed_than q (if b
+          then record { name = g.name; exporters = g.exporters ++ x ∷ [] } ∷ groups else g ∷ with_member name groups x) ≡ shadowed_than q (g ∷ groups)
       by true same rest =
           let gone : bytes_eq q g.name ≡ true = is_same q g.name (same_name q (name x) is ∙ same_name (name x) g.name same) in
           left_out (λ (h : NameWithExporters A). not (bytes_eq q h.name)) (record { name = g.name; exporters = g.exporters ++ x ∷ [] }) groups (ap not gone)
           ∙ sym (left_out (λ (h : NameWithExporters A). not (bytes_eq q h.name)) g groups (ap not gone))
       by false other rest = on (not (bytes_eq q g.name)) rest
         where
-          on : (c : Bool) → shadowed_than q (with_exporter name groups x) ≡ shadowed_than q groups
-              → (if c then g ∷ shadowed_than q (with_exporter name groups x) else shadowed_than q (with_exporter name groups x))
+          on : (c : Bool) → shadowed_than q (with_member name groups x) ≡ shadowed_than q groups
+              → (if c then g ∷ shadowed_than q (with_member name groups x) else shadowed_than q (with_member name groups x))
               ≡ (if c then g ∷ shadowed_than q groups else shadowed_than q groups)
           on true same = ap (λ gs. g ∷ gs) same
           on false same = same
 
   -- it stays if another name's group is left out
   still_there : (q : List ℕ) (groups : List (NameWithExporters A)) (x : A) → bytes_eq q (name x) ≡ false
-      → shadowed_than q (with_exporter name groups x) ≡ with_exporter name (shadowed_than q groups) x
+      → shadowed_than q (with_member name groups x) ≡ with_member name (shadowed_than q groups) x
   still_there q [] x is = retained_first (λ (g : NameWithExporters A). not (bytes_eq q g.name)) (record { name = name x; exporters = x ∷ [] }) [] (ap not is)
   still_there q (g ∷ groups) x is = by (bytes_eq (name x) g.name) refl (still_there q groups x is)
     where
-      by : (b : Bool) → bytes_eq (name x) g.name ≡ b → shadowed_than q (with_exporter name groups x) ≡ with_exporter name (shadowed_than q groups) x
-          → shadowed_than q (if b then record { name = g.name; exporters = g.exporters ++ x ∷ [] } ∷ groups else g ∷ with_exporter name groups x)
-          ≡ with_exporter name (shadowed_than q (g ∷ groups)) x
+      by : (b : Bool) → bytes_eq (name x) g.name ≡ b → shadowed_than q (with_member name groups x) ≡ with_member name (shadowed_than q groups) x
+          → shadowed_than q (if b then record { name = g.name; exporters = g.exporters ++ x ∷ [] } ∷ groups else g ∷ with_member name groups x)
+          ≡ with_member name (shadowed_than q (g ∷ groups)) x
       by true same rest =
           let stays : bytes_eq q g.name ≡ false = subst (λ n. bytes_eq q n ≡ false) (same_name (name x) g.name same) is in
           retained_first (λ (h : NameWithExporters A). not (bytes_eq q h.name)) (record { name = g.name; exporters = g.exporters ++ x ∷ [] }) groups
           (ap not stays)
           ∙ (sym (found_first (shadowed_than q groups) same)
-          ∙ ap (λ gs. with_exporter name gs x) (sym (retained_first (λ (h : NameWithExporters A). not (bytes_eq q h.name)) g groups (ap not stays))))
+          ∙ ap (λ gs. with_member name gs x) (sym (retained_first (λ (h : NameWithExporters A). not (bytes_eq q h.name)) g groups (ap not stays))))
         where
           found_first : (rest : List (NameWithExporters A)) → bytes_eq (name x) g.name ≡ true
-              → with_exporter name (g ∷ rest) x ≡ record { name = g.name; exporters = g.exporters ++ x ∷ [] } ∷ rest
+              → with_member name (g ∷ rest) x ≡ record { name = g.name; exporters = g.exporters ++ x ∷ [] } ∷ rest
           found_first rest found = rw found refl
       by false other rest = on (bytes_eq q g.name) refl rest
         where
-          found_later : (rest : List (NameWithExporters A)) → bytes_eq (name x) g.name ≡ false → with_exporter name (g ∷ rest) x ≡ g ∷ with_exporter name rest x
+          found_later : (rest : List (NameWithExporters A)) → bytes_eq (name x) g.name ≡ false → with_member name (g ∷ rest) x ≡ g ∷ with_member name rest x
           found_later rest unresolved = rw unresolved refl
 
-          on : (c : Bool) → bytes_eq q g.name ≡ c → shadowed_than q (with_exporter name groups x) ≡ with_exporter name (shadowed_than q groups) x
-              → shadowed_than q (g ∷ with_exporter name groups x) ≡ with_exporter name (shadowed_than q (g ∷ groups)) x
+          on : (c : Bool) → bytes_eq q g.name ≡ c → shadowed_than q (with_member name groups x) ≡ with_member name (shadowed_than q groups) x
+              → shadowed_than q (g ∷ with_member name groups x) ≡ with_member name (shadowed_than q (g ∷ groups)) x
           on true gone same =
-              left_out (λ (h : NameWithExporters A). not (bytes_eq q h.name)) g (with_exporter name groups x) (ap not gone)
-              ∙ (same ∙ ap (λ gs. with_exporter name gs x) (sym (left_out (λ (h : NameWithExporters A). not (bytes_eq q h.name)) g groups (ap not gone))))
+              left_out (λ (h : NameWithExporters A). not (bytes_eq q h.name)) g (with_member name groups x) (ap not gone)
+              ∙ (same ∙ ap (λ gs. with_member name gs x) (sym (left_out (λ (h : NameWithExporters A). not (bytes_eq q h.name)) g groups (ap not gone))))
           on false stays same =
-              retained_first (λ (h : NameWithExporters A). not (bytes_eq q h.name)) g (with_exporter name groups x) (ap not stays)
+              retained_first (λ (h : NameWithExporters A). not (bytes_eq q h.name)) g (with_member name groups x) (ap not stays)
               ∙ (ap (λ gs. g ∷ gs) same ∙ (sym (found_later (shadowed_than q groups) other)
-              ∙ ap (λ gs. with_exporter name gs x) (sym (retained_first (λ (h : NameWithExporters A). not (bytes_eq q h.name)) g groups (ap not stays)))))
+              ∙ ap (λ gs. with_member name gs x) (sym (retained_first (λ (h : NameWithExporters A). not (bytes_eq q h.name)) g groups (ap not stays)))))
 
-  one_more : (xs : List A) (x : A) → grouped_by_name name (xs ++ x ∷ []) ≡ with_exporter name (grouped_by_name name xs) x
+  one_more : (xs : List A) (x : A) → grouped_by_name name (xs ++ x ∷ []) ≡ with_member name (grouped_by_name name xs) x
   one_more [] x = refl
   one_more (w ∷ xs) x = by (bytes_eq (name w) (name x)) refl (one_more xs x)
     where
@@ -181,16 +187,16 @@ module _ {A : Type 0} (name : A → List ℕ) where
       longer = filter-append (λ y. bytes_eq q (name y)) xs (x ∷ [])
 
       found_here : bytes_eq (name x) q ≡ true → (rest : List (NameWithExporters A))
-          → with_exporter name (record { name = q; exporters = w ∷ exporters } ∷ rest) x ≡ record { name = q; exporters = w ∷ exporters ++ x ∷ [] } ∷ rest
+          → with_member name (record { name = q; exporters = w ∷ exporters } ∷ rest) x ≡ record { name = q; exporters = w ∷ exporters ++ x ∷ [] } ∷ rest
       found_here is rest = rw is refl
 
       found_later : bytes_eq (name x) q ≡ false → (rest : List (NameWithExporters A))
-          → with_exporter name (record { name = q; exporters = w ∷ exporters } ∷ rest) x
-          ≡ record { name = q; exporters = w ∷ exporters } ∷ with_exporter name rest x
+          → with_member name (record { name = q; exporters = w ∷ exporters } ∷ rest) x
+          ≡ record { name = q; exporters = w ∷ exporters } ∷ with_member name rest x
       found_later is rest = rw is refl
 
-      by : (b : Bool) → bytes_eq q (name x) ≡ b → grouped_by_name name (xs ++ x ∷ []) ≡ with_exporter name (grouped_by_name name xs) x
-          → grouped_by_name name (w ∷ (xs ++ x ∷ [])) ≡ with_exporter name (grouped_by_name name (w ∷ xs)) x
+      by : (b : Bool) → bytes_eq q (name x) ≡ b → grouped_by_name name (xs ++ x ∷ []) ≡ with_member name (grouped_by_name name xs) x
+          → grouped_by_name name (w ∷ (xs ++ x ∷ [])) ≡ with_member name (grouped_by_name name (w ∷ xs)) x
       by true is rest =
           let more : filter (λ y. bytes_eq q (name y)) (xs ++ x ∷ []) ≡ exporters ++ x ∷ [] =
           longer ∙ ap (λ ys. exporters ++ ys) (retained_first (λ y. bytes_eq q (name y)) x [] is) in
@@ -201,15 +207,15 @@ module _ {A : Type 0} (name : A → List ℕ) where
       by false is rest =
           let more : filter (λ y. bytes_eq q (name y)) (xs ++ x ∷ []) ≡ exporters =
           longer ∙ (ap (λ ys. exporters ++ ys) (left_out (λ y. bytes_eq q (name y)) x [] is) ∙ append-nil exporters) in
-          let groups : shadowed_than q (grouped_by_name name (xs ++ x ∷ [])) ≡ with_exporter name (shadowed_than q (grouped_by_name name xs)) x =
+          let groups : shadowed_than q (grouped_by_name name (xs ++ x ∷ [])) ≡ with_member name (shadowed_than q (grouped_by_name name xs)) x =
           ap (shadowed_than q) rest ∙ still_there q (grouped_by_name name xs) x is in
           (λ i. record { name = q; exporters = w ∷ more i } ∷ groups i)
           ∙ sym (found_later (other_name q (name x) is) (shadowed_than q (grouped_by_name name xs)))
 
   -- candidates added one by one are grouped like the whole list
-  pub all_together : (done xs : List A) → fold (with_exporter name) (grouped_by_name name done) xs ≡ grouped_by_name name (done ++ xs)
+  all_together : (done xs : List A) → fold (with_member name) (grouped_by_name name done) xs ≡ grouped_by_name name (done ++ xs)
   all_together done [] = ap (grouped_by_name name) (sym (append-nil done))
-  all_together done (x ∷ xs) = ap (λ groups. fold (with_exporter name) groups xs) (sym (one_more done x))
+  all_together done (x ∷ xs) = ap (λ groups. fold (with_member name) groups xs) (sym (one_more done x))
       ∙ (all_together (done ++ x ∷ []) xs ∙ ap (grouped_by_name name) (append_assoc done (x ∷ []) xs))
 
 -- ---- groups of mapped elements
@@ -235,13 +241,92 @@ module _ {A B : Type 0} (f : A → B) (name : B → List ℕ) (is_along : B → 
       ∙ filter_mapped on_exporters (λ (g : NameWithExporters B). not (bytes_eq (name (f x)) g.name)) (grouped_by_name (λ y. name (f y)) xs) in
       λ i. record { name = name (f x); exporters = f x ∷ exporters i } ∷ rest i
 
-  shared_alike : (exporters : List A) → is_shared_group is_along (map f exporters) ≡ is_shared_group (λ x. is_along (f x)) exporters
+  shared_alike : (exporters : List A) → has_shared_exporters is_along (map f exporters) ≡ has_shared_exporters (λ x. is_along (f x)) exporters
   shared_alike [] = refl
   shared_alike (x ∷ []) = refl
   shared_alike (x ∷ y ∷ rest) = refl
 
-  pub shared_mapped : (xs : List A) → shared_among name is_along (map f xs) ≡ map on_exporters (shared_among (λ x. name (f x)) (λ x. is_along (f x)) xs)
+  pub shared_mapped : (xs : List A) → shared_names_among name is_along (map f xs) ≡ map on_exporters
+      (shared_names_among (λ x. name (f x)) (λ x. is_along (f x)) xs)
   shared_mapped xs =
-      ap (shared_groups is_along) (together_mapped xs)
-      ∙ (filter_mapped on_exporters (λ (g : NameWithExporters B). is_shared_group is_along g.exporters) (grouped_by_name (λ x. name (f x)) xs)
+      ap (groups_with_shared_exporters is_along) (together_mapped xs)
+      ∙ (filter_mapped on_exporters (λ (g : NameWithExporters B). has_shared_exporters is_along g.exporters) (grouped_by_name (λ x. name (f x)) xs)
       ∙ ap (λ (p : NameWithExporters A → Bool). map on_exporters (filter p (grouped_by_name (λ x. name (f x)) xs))) (λ i g. shared_alike g.exporters i))
+
+-- ---- groups without later elements, where the first isn't along an `export *`
+
+module _ {A : Type 0} (name : A → List ℕ) (is_along : A → Bool) where
+  abbrev shareable : List A → List A
+  shareable [] = []
+  shareable (x ∷ xs) = if is_along x then x ∷ xs else x ∷ []
+
+  abbrev shareable_group : NameWithExporters A → NameWithExporters A
+  shareable_group group = record { name = group.name; exporters = shareable group.exporters }
+
+  one_alone : (x : A) → shareable (x ∷ []) ≡ x ∷ []
+  one_alone x = by (is_along x)
+    where
+      by : (b : Bool) → (if b then x ∷ [] else x ∷ []) ≡ x ∷ []
+      by true = refl
+      by false = refl
+
+  later_shareable : (xs : List A) (x : A) → with_later_exporter is_along (shareable xs) x ≡ shareable (xs ++ x ∷ [])
+  later_shareable [] x = sym (one_alone x)
+  later_shareable (first ∷ xs) x = by (is_along first) refl
+    where
+      by : (b : Bool) → is_along first ≡ b
+          → with_later_exporter is_along (if b then first ∷ xs else first ∷ []) x ≡ (if b then first ∷ (xs ++ x ∷ []) else first ∷ [])
+      by true is = rw is refl
+      by false is = rw is refl
+
+  exporter_shareable : (groups : List (NameWithExporters A)) (x : A)
+      → with_exporter name is_along (map shareable_group groups) x ≡ map shareable_group (with_member name groups x)
+  exporter_shareable [] x = λ i. record { name = name x; exporters = sym (one_alone x) i } ∷ []
+  exporter_shareable (group ∷ groups) x = by (bytes_eq (name x) group.name) (exporter_shareable groups x)
+    where
+      by : (b : Bool) → with_exporter name is_along (map shareable_group groups) x ≡ map shareable_group (with_member name groups x)
+          → (if b then record { name = group.name; exporters = with_later_exporter is_along (shareable group.exporters) x } ∷ map shareable_group groups
+          else shareable_group group ∷ with_exporter name is_along (map shareable_group groups) x)
+          ≡ map shareable_group (if b then record { name = group.name; exporters = group.exporters ++ x ∷ [] } ∷ groups
+          else group ∷ with_member name groups x)
+      by true rest = λ i. record { name = group.name; exporters = later_shareable group.exporters x i } ∷ map shareable_group groups
+      by false rest = ap (λ more. shareable_group group ∷ more) rest
+
+  exporters_shareable : (groups : List (NameWithExporters A)) (xs : List A)
+      → fold (with_exporter name is_along) (map shareable_group groups) xs ≡ map shareable_group (fold (with_member name) groups xs)
+  exporters_shareable groups [] = refl
+  exporters_shareable groups (x ∷ xs) = ap (λ more. fold (with_exporter name is_along) more xs) (exporter_shareable groups x)
+      ∙ exporters_shareable (with_member name groups x) xs
+
+  -- these groups have the same shared names
+  same_shared : (groups : List (NameWithExporters A)) → groups_with_shared_exporters is_along (map shareable_group groups)
+      ≡ groups_with_shared_exporters is_along groups
+  same_shared [] = refl
+  same_shared (group ∷ groups) = by group.name group.exporters ∙ ap (λ more. if has_shared_exporters is_along group.exporters then group ∷ more else more)
+      (same_shared groups)
+    where
+      shared_after : List (NameWithExporters A)
+      shared_after = groups_with_shared_exporters is_along (map shareable_group groups)
+
+      by : (called : List ℕ) (exporters : List A) → (if has_shared_exporters is_along (shareable exporters)
+          then record { name = called; exporters = shareable exporters } ∷ shared_after else shared_after)
+          ≡ (if has_shared_exporters is_along exporters then record { name = called; exporters = exporters } ∷ shared_after else shared_after)
+      by called [] = refl
+      by called (x ∷ []) = on (is_along x)
+        where
+          on : (b : Bool) → (if has_shared_exporters is_along (if b then x ∷ [] else x ∷ [])
+              then record { name = called; exporters = if b then x ∷ [] else x ∷ [] } ∷ shared_after else shared_after) ≡ shared_after
+          on true = refl
+          on false = refl
+      by called (x ∷ y ∷ xs) = on (is_along x) refl
+        where
+          on : (b : Bool) → is_along x ≡ b → (if has_shared_exporters is_along (if b then x ∷ y ∷ xs else x ∷ [])
+              then record { name = called; exporters = if b then x ∷ y ∷ xs else x ∷ [] } ∷ shared_after else shared_after)
+              ≡ (if is_along x then record { name = called; exporters = x ∷ y ∷ xs } ∷ shared_after else shared_after)
+          on true is = refl
+          on false is = rw is refl
+
+  -- exporters added one by one have the shared names of the whole list
+  pub all_shared : (xs : List A) → groups_with_shared_exporters is_along (fold (with_exporter name is_along) [] xs) ≡ shared_names_among name is_along xs
+  all_shared xs = ap (groups_with_shared_exporters is_along) (exporters_shareable [] xs)
+      ∙ (same_shared (fold (with_member name) [] xs) ∙ ap (groups_with_shared_exporters is_along) (all_together name [] xs))

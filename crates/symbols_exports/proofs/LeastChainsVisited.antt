@@ -4,7 +4,7 @@ use Rattle.std.proofs.Common.{length, take, get_or, Some, refl, sym, ◌∙◌, 
 use Rattle.std.specs.Prelude.{Contains}
 use Rattle.std.proofs.lemmas.List.{take-take, take_at, length-take-le, length-append, take_more, take_all}
 use Rattle.std.proofs.lemmas.Option.{same_Some}
-use Rattle.symbols_exports.specs.Chains.{StarTargets, star_target_at, chain_end_module, IsSimpleChain, IsChainBefore, IsChainUpTo, IsLeastChain}
+use Rattle.symbols_exports.specs.Chains.{StarTargets, star_target_at, chain_end_module, IsSimpleChain, IsChainBefore, IsChainBeforeOrEqual, IsLeastChain}
 use Rattle.symbols_exports.specs.Chains.{AreReachedByStars}
 use Rattle.symbols_exports.proofs.ChainOrder.{with_one_more, before_then_before, up_to_then_before}
 use Rattle.symbols_exports.proofs.ChainOrder.{up_to_then_up_to, same_both_traces, up_to_or_after, beginning_up_to}
@@ -24,7 +24,8 @@ no_return statements start chain end k simple within front rest u x split to_fro
     let fewer : length front ≤ k = omega arith in
     let begins : take (length front) chain ≡ front =
     sym (take-take (length front) k chain fewer) ∙ (ap (take (length front)) split ∙ take_at front (x ∷ rest) (length front) refl) in
-    let equal : length front ≡ k = simple.once (length front) k (omega arith) within (ap (chain_end_module statements start) begins ∙ (to_front ∙ sym to_all))
+    let equal : length front ≡ k = simple.has_no_duplicates (length front) k (omega arith) within (ap (chain_end_module statements start) begins ∙
+    (to_front ∙ sym to_all))
     in
     omega arith
 
@@ -32,14 +33,15 @@ no_return statements start chain end k simple within front rest u x split to_fro
 module _ (statements : StarTargets) (start cursor : List ℕ) (visited : List Visit) (occurs : OccursAt statements start cursor visited) (chain end : List
     ℕ) (simple : IsSimpleChain statements start chain end) (earlier : IsChainBefore chain cursor) where
   pushed : (k x : ℕ) → k ≤ length chain → (u c : List ℕ) → chain_end_module statements start (take k chain) ≡ Some u → Contains visited (c, u)
-      → IsChainUpTo c (take k chain) → IsChainUpTo (c ++ x ∷ []) (take k chain ++ x ∷ [])
+      → IsChainBeforeOrEqual c (take k chain) → IsChainBeforeOrEqual (c ++ x ∷ []) (take k chain ++ x ∷ [])
   pushed k x within u c ends_at cu (inl same) = inl (ap (λ d. d ++ x ∷ []) same)
   pushed k x within u c ends_at cu (inr before) = elim (with_one_more c (take k chain) x before) [
     | inl still ↦ inr still
     | inr begins ↦ absurd (no_return statements start chain end k simple within c begins.1 u begins.0 begins.2 (occurs.are_chains c u cu).ends_at ends_at)
   ]
 
-  one_further : (k x : ℕ) (v : List ℕ) → k ≤ length chain → IsChainUpTo (take k chain ++ x ∷ []) chain → IsVisitedAlong statements start visited (take k chain)
+  one_further : (k x : ℕ) (v : List ℕ) → k ≤ length chain → IsChainBeforeOrEqual (take k chain ++ x ∷ []) chain → IsVisitedAlong statements start visited
+      (take k chain)
       → chain_end_module statements start (take k chain ++ x ∷ []) ≡ Some v → IsVisitedAlong statements start visited (take k chain ++ x ∷ [])
   one_further k x v within begins so_far ends_at =
       let from = ends_back statements start v (take k chain) x ends_at in
@@ -78,13 +80,13 @@ visited_are_least statements start cursor visited occurs c u = (is_least, is_vis
     is_least : Contains visited (c, u) → IsLeastChain statements start c u × IsChainBefore c cursor
     is_least cu = (record { is_chain = occurs.are_chains c u cu; least = least }, occurs.before c u cu)
       where
-        least : (other : List ℕ) → IsSimpleChain statements start other u → IsChainUpTo c other
+        least : (other : List ℕ) → IsSimpleChain statements start other u → IsChainBeforeOrEqual c other
         least other simple = elim (up_to_or_after c other) [
           | inl up_to ↦ up_to
           | inr following ↦
               let by = visited_so_far statements start cursor visited occurs other u simple
               (before_then_before other c cursor following (occurs.before c u cu)) in
-              subst (λ d. IsChainUpTo d other) (occurs.visited_once by.0 c u by.1 cu) by.2
+              subst (λ d. IsChainBeforeOrEqual d other) (occurs.visited_once by.0 c u by.1 cu) by.2
         ]
 
     is_visited : IsLeastChain statements start c u × IsChainBefore c cursor → Contains visited (c, u)

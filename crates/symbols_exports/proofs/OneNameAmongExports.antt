@@ -7,9 +7,9 @@ use Rattle.std.proofs.lemmas.Option.{none-some, same_Some, slice_get_within}
 use Rattle.std.proofs.lemmas.Slice.Eq.{bytes_eq-Decides}
 use Rattle.symbols_ast.specs.declared.ids.SymbolId.{SymbolId}
 use Rattle.symbols_table.specs.Events.{default_export_name}
-use Rattle.symbols_exports.specs.Chains.{StarTargets, chain_end_module, IsChainBefore, IsChainUpTo}
+use Rattle.symbols_exports.specs.Chains.{StarTargets, chain_end_module, IsChainBefore, IsChainBeforeOrEqual}
 use Rattle.symbols_exports.specs.Exports.{ExplicitExports, ExportEntry, IsExportCandidate, IsExport, IsExportEntryBefore, AreExports}
-use Rattle.symbols_exports.specs.OneName.{last_searched_chain, IsChainUpToLast}
+use Rattle.symbols_exports.specs.OneName.{last_searched_chain, IsChainNotAfterLastSearched}
 use Rattle.symbols_exports.proofs.FirstOfEachName.{ExplicitOnce, AreFound}
 use Rattle.symbols_exports.proofs.LeastChainsVisited.{visited_so_far}
 use Rattle.symbols_exports.proofs.ChainOrder.{never_before_itself, before_then_before, up_to_then_up_to, same_both_traces, up_to_or_after, up_to_nothing}
@@ -92,7 +92,8 @@ module _ (statements : StarTargets) (explicit : ExplicitExports) (start : List �
       let exporters : e.exporter ≡ f.exporter =
       same_Some e.exporter f.exporter (sym is_e.candidate.ends_at.ends_at ∙ (ap (chain_end_module statements start) chains ∙ is_f.candidate.ends_at.ends_at)) in
       let symbols : e.symbol ≡ f.symbol = explicit_once f.exporter f.name e.symbol f.symbol (subst (λ q. Contains (explicit f.exporter) (q, e.symbol)) names
-      (subst (λ u. Contains (explicit u) (e.name, e.symbol)) exporters is_e.candidate.exports_name)) is_f.candidate.exports_name in
+      (subst (λ u. Contains (explicit u)
+      (e.name, e.symbol)) exporters is_e.candidate.exporter_exports_name_explicitly)) is_f.candidate.exporter_exports_name_explicitly in
       λ i. record { name = names i; chain = chains i; exporter = exporters i; symbol = symbols i }
 
   abbrev pub has_this_name : ExportEntry → Bool
@@ -124,14 +125,14 @@ module _ (statements : StarTargets) (explicit : ExplicitExports) (start : List �
 
       -- for each candidate of the name before the cursor, an entry was found by no later a chain
       found_up_to : (e : ExportEntry) → IsExportCandidate statements explicit start e → e.name ≡ n → IsChainBefore e.chain cursor
-          → (first : ExportEntry) × Contains found first × IsChainUpTo first.chain e.chain
+          → (first : ExportEntry) × Contains found first × IsChainBeforeOrEqual first.chain e.chain
       found_up_to e one_candidate name before =
           let by = visited_so_far statements start cursor visited occurs e.chain e.exporter one_candidate.ends_at before in
           let this : ExportEntry = record { name = n; chain = by.0; exporter = e.exporter; symbol = e.symbol } in
-          let exports_name : Contains (called e.exporter) (n, e.symbol) =
-          is_called_too e.exporter e.symbol (subst (λ q. Contains (explicit e.exporter) (q, e.symbol)) name one_candidate.exports_name) in
-          let first = (are unresolved_at).covers this (inl (by.1, exports_name))
-          (λ default. up_to_nothing by.0 (subst (IsChainUpTo by.0) (one_candidate.passed (name ∙ default)) by.2)) in
+          let exporter_exports_name_explicitly : Contains (called e.exporter) (n, e.symbol) =
+          is_called_too e.exporter e.symbol (subst (λ q. Contains (explicit e.exporter) (q, e.symbol)) name one_candidate.exporter_exports_name_explicitly) in
+          let first = (are unresolved_at).covers this (inl (by.1, exporter_exports_name_explicitly))
+          (λ default. up_to_nothing by.0 (subst (IsChainBeforeOrEqual by.0) (one_candidate.default_has_empty_chain (name ∙ default)) by.2)) in
           (first.0, first.1, up_to_then_up_to first.0.chain by.0 e.chain first.3 by.2)
 
       pub found_is_export : (e : ExportEntry) → Contains found e → IsExport statements explicit start e
@@ -140,17 +141,17 @@ module _ (statements : StarTargets) (explicit : ExplicitExports) (start : List �
           candidate : IsExportCandidate statements explicit start e
           candidate = record {
             ends_at = occurs.are_chains e.chain e.exporter (already_visited e at).0;
-            exports_name = (is_explicit e.exporter e.name e.symbol (already_visited e at).1).0;
-            passed = (are unresolved_at).passed e at;
+            exporter_exports_name_explicitly = (is_explicit e.exporter e.name e.symbol (already_visited e at).1).0;
+            default_has_empty_chain = (are unresolved_at).default_has_empty_chain e at;
           }
 
-          least : (other : ExportEntry) → IsExportCandidate statements explicit start other → other.name ≡ e.name → IsChainUpTo e.chain other.chain
+          least : (other : ExportEntry) → IsExportCandidate statements explicit start other → other.name ≡ e.name → IsChainBeforeOrEqual e.chain other.chain
           least other one_candidate same = elim (up_to_or_after e.chain other.chain) [
             | inl up_to ↦ up_to
             | inr following ↦
                 let before = before_then_before other.chain e.chain cursor following (occurs.before e.chain e.exporter (already_visited e at).0) in
                 let first = found_up_to other one_candidate (same ∙ is_named e at) before in
-                subst (λ x. IsChainUpTo x.chain other.chain)
+                subst (λ x. IsChainBeforeOrEqual x.chain other.chain)
                 ((are unresolved_at).named_once first.0 e first.1 at (is_named first.0 first.1 ∙ sym (is_named e at)))
                 first.2
           ]
@@ -175,7 +176,7 @@ module _ (statements : StarTargets) (explicit : ExplicitExports) (start : List �
           absurd (not_before_itself e (subst (IsExportEntryBefore called e) same (ordered 0 1 e (omega arith) (omega arith))))
 
       -- if nothing was found, no export of the name comes before the cursor
-      pub not_before : found ≡ [] → (e : ExportEntry) → IsExport statements explicit start e → e.name ≡ n → IsChainUpTo cursor e.chain
+      pub not_before : found ≡ [] → (e : ExportEntry) → IsExport statements explicit start e → e.name ≡ n → IsChainBeforeOrEqual cursor e.chain
       not_before none e is name = elim (up_to_or_after cursor e.chain) [
         | inl up_to ↦ up_to
         | inr before ↦
@@ -185,11 +186,11 @@ module _ (statements : StarTargets) (explicit : ExplicitExports) (start : List �
       ]
 
       -- so the walk isn't after the last chain
-      pub within_last : found ≡ [] → bytes_eq n default_export_name ≡ false → (c : List ℕ) → IsChainUpTo c cursor
-          → IsChainUpToLast (last_searched_chain n (find has_this_name exports)) c
+      pub within_last : found ≡ [] → bytes_eq n default_export_name ≡ false → (c : List ℕ) → IsChainBeforeOrEqual c cursor
+          → IsChainNotAfterLastSearched (last_searched_chain n (find has_this_name exports)) c
       within_last none other c up_to = by (find has_this_name exports) refl
         where
-          by : (entry : Option ExportEntry) → find has_this_name exports ≡ entry → IsChainUpToLast (last_searched_chain n entry) c
+          by : (entry : Option ExportEntry) → find has_this_name exports ≡ entry → IsChainNotAfterLastSearched (last_searched_chain n entry) c
           by None is = rw other tt
           by (Some e) is =
               let there = found_there has_this_name exports e is in

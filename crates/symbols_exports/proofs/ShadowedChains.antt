@@ -11,14 +11,16 @@ use Rattle.std.proofs.lemmas.Bool.{ltb-true}
 use Rattle.std.proofs.lemmas.List.{map-append, length-map}
 use Rattle.std.proofs.lemmas.Option.{none-some, same_Some}
 use Rattle.std.proofs.lemmas.Slice.Eq.{bytes_eq-Decides}
+use Rattle.symbols_ast.specs.declared.ids.ModuleId.{ModuleId}
+use Rattle.symbols_exports.specs.declared.export_chain.ResolvedExport.{ResolvedExport}
 use Rattle.symbols_exports.specs.SharedNames.{NameWithExporters}
-use Rattle.symbols_exports.specs.SharedNameLists.{is_shared_group, shared_groups}
-use Rattle.symbols_exports.specs.inner.Sharing.{is_along_stars}
+use Rattle.symbols_exports.specs.SharedNameLists.{has_shared_exporters, groups_with_shared_exporters}
+use Rattle.symbols_exports.specs.inner.Collecting.{is_along_stars}
 use Rattle.symbols_exports.specs.declared.shared_name.SharedName.{SharedName}
 use Rattle.symbols_exports.specs.CollectedNames.{resolved_shared_name_view, resolved_shared_name_views, ResolvedExportView, resolved_chain_view}
 use Rattle.symbols_exports.specs.CollectedNames.{resolved_export_view}
 use Rattle.symbols_exports.specs.inner.Collecting.{ExportChain, name_of_view, shared_group_of, shared_groups_of, chain_lists_view, with_later_chain}
-use Rattle.symbols_exports.specs.inner.Collecting.{with_exporter}
+use Rattle.symbols_exports.specs.inner.Collecting.{with_exporter, with_later_exporter}
 
 abbrev pub NameEntry : Type 0
 NameEntry = String Global × ExportChain
@@ -32,50 +34,112 @@ is_key q key = bytes_eq q (string_bytes key)
 
 -- ---- one more chain of a known name
 
--- one more chain of a name goes after its other chains
+-- one more chain of a name goes after its other chains, if the first is along an `export *`
 after_one : (q : List ℕ) (chain : ExportChain) (entry : NameEntry) (shadowed : List ExportChain) → bytes_eq q (string_bytes entry.0) ≡ true
-    → shared_group_of entry (shadowed ++ chain ∷ [])
-    ≡ record { name = string_bytes entry.0; exporters = (shared_group_of entry shadowed).exporters ++ resolved_chain_view q chain ∷ [] }
-after_one q chain entry shadowed is =
+    → is_along_stars (resolved_export_view entry) ≡ true → shared_group_of entry (shadowed ++ chain ∷ []) ≡ record {
+      name = string_bytes entry.0;
+      exporters = with_later_exporter is_along_stars (shared_group_of entry shadowed).exporters (resolved_chain_view q chain);
+    }
+after_one q chain entry shadowed is along =
     let same : q ≡ string_bytes entry.0 = (bytes_eq-Decides q (string_bytes entry.0)).0 is in
     let viewed : map (resolved_chain_view (string_bytes entry.0)) (shadowed ++ chain ∷ []) ≡ map (resolved_chain_view (string_bytes entry.0)) shadowed
     ++ resolved_chain_view q chain
     ∷ [] = map-append (resolved_chain_view (string_bytes entry.0)) shadowed (chain ∷ [])
     ∙ (λ k. map (resolved_chain_view (string_bytes entry.0)) shadowed ++ resolved_chain_view (sym same k) chain ∷ []) in
-    λ k. record { name = string_bytes entry.0; exporters = resolved_export_view entry ∷ viewed k }
+    let exporters = ap (λ views. resolved_export_view entry ∷ views) viewed ∙ appended in
+    λ k. record { name = string_bytes entry.0; exporters = exporters k }
+  where
+    appended : (shared_group_of entry shadowed).exporters ++ resolved_chain_view q chain ∷ []
+        ≡ with_later_exporter is_along_stars (shared_group_of entry shadowed).exporters (resolved_chain_view q chain)
+    appended = rw along refl
 
-put_at : (q : List ℕ) (chain : ExportChain) (entries : List NameEntry) (lists : List (List ExportChain)) (i : ℕ) → position_or_len (is_key q) (keys_of entries)
-    ≡ i → i < length (keys_of entries) → shared_groups_of entries (with_later_chain i chain lists)
-    ≡ with_exporter name_of_view (shared_groups_of entries lists) (resolved_chain_view q chain)
-put_at q chain [] lists i at within = absurd (omega (arith, within))
-put_at q chain (entry ∷ entries) [] i at within = by (is_key q entry.0) refl i at within (λ j index short. put_at q chain entries [] j index short)
-  where
-    by : (b : Bool) → is_key q entry.0 ≡ b → (j : ℕ) → cond (not b) (1 + position_or_len (is_key q) (keys_of entries)) 0 ≡ j
-        → j < suc (length (keys_of entries)) → ((k : ℕ) → position_or_len (is_key q) (keys_of entries) ≡ k → k < length (keys_of entries)
-        → shared_groups_of entries (with_later_chain k chain []) ≡ with_exporter name_of_view (shared_groups_of entries []) (resolved_chain_view q chain))
-        → shared_groups_of (entry ∷ entries) (with_later_chain j chain []) ≡ (if b then record {
-          name = string_bytes entry.0;
-          exporters = (shared_group_of entry []).exporters
-              ++ resolved_chain_view q chain ∷ [];
-        } ∷ shared_groups_of entries [] else shared_group_of entry [] ∷ with_exporter name_of_view (shared_groups_of entries []) (resolved_chain_view q chain))
-    by true is zero here short rest = ap (λ group. group ∷ shared_groups_of entries []) (after_one q chain entry [] is)
-    by true is (suc j) here short rest = absurd (omega (arith, here))
-    by false is zero here short rest = absurd (omega (arith, here))
-    by false is (suc j) here short rest = ap (λ groups. shared_group_of entry [] ∷ groups) (rest j (omega (arith, here)) (omega (arith, short)))
-put_at q chain (entry ∷ entries) (shadowed ∷ lists) i at within =
-    by (is_key q entry.0) refl i at within (λ j index short. put_at q chain entries lists j index short)
-  where
-    by : (b : Bool) → is_key q entry.0 ≡ b → (j : ℕ) → cond (not b) (1 + position_or_len (is_key q) (keys_of entries)) 0 ≡ j
-        → j < suc (length (keys_of entries)) → ((k : ℕ) → position_or_len (is_key q) (keys_of entries) ≡ k → k < length (keys_of entries)
-        → shared_groups_of entries (with_later_chain k chain lists) ≡ with_exporter name_of_view (shared_groups_of entries lists) (resolved_chain_view q chain))
-        → shared_groups_of (entry ∷ entries) (with_later_chain j chain (shadowed ∷ lists))
-        ≡ (if b then record { name = string_bytes entry.0; exporters = (shared_group_of entry shadowed).exporters ++ resolved_chain_view q chain ∷ [] }
-        ∷ shared_groups_of entries lists else shared_group_of entry shadowed
-        ∷ with_exporter name_of_view (shared_groups_of entries lists) (resolved_chain_view q chain))
-    by true is zero here short rest = ap (λ group. group ∷ shared_groups_of entries lists) (after_one q chain entry shadowed is)
-    by true is (suc j) here short rest = absurd (omega (arith, here))
-    by false is zero here short rest = absurd (omega (arith, here))
-    by false is (suc j) here short rest = ap (λ groups. shared_group_of entry shadowed ∷ groups) (rest j (omega (arith, here)) (omega (arith, short)))
+module _ (q : List ℕ) (chain first : ExportChain) where
+  -- a chain at the index of the name, by the first list and those after it
+  put_at : is_along_stars (resolved_chain_view q first) ≡ true → (entries : List NameEntry) (lists : List (List ExportChain)) (i : ℕ)
+      → position_or_len (is_key q) (keys_of entries) ≡ i → i < length (keys_of entries) → lookup (is_key q) entries ≡ Some first
+      → shared_groups_of entries (with_later_chain i chain lists)
+      ≡ with_exporter name_of_view is_along_stars (shared_groups_of entries lists) (resolved_chain_view q chain)
+  put_at along [] lists i at within had = absurd (omega (arith, within))
+  put_at along (entry ∷ entries) [] i at within had =
+      by (is_key q entry.0) refl had i at within (λ j index short have. put_at along entries [] j index short have)
+    where
+      by : (b : Bool) → is_key q entry.0 ≡ b → cond b (Some entry.1) (lookup (is_key q) entries) ≡ Some first → (j : ℕ)
+          → cond (not b) (1 + position_or_len (is_key q) (keys_of entries)) 0 ≡ j → j < suc (length (keys_of entries))
+          → ((k : ℕ) → position_or_len (is_key q) (keys_of entries) ≡ k → k < length (keys_of entries) → lookup (is_key q) entries ≡ Some first
+          → shared_groups_of entries (with_later_chain k chain [])
+          ≡ with_exporter name_of_view is_along_stars (shared_groups_of entries []) (resolved_chain_view q chain))
+          → shared_groups_of (entry ∷ entries) (with_later_chain j chain []) ≡ (if b then record {
+            name = string_bytes entry.0;
+            exporters = with_later_exporter is_along_stars (shared_group_of entry []).exporters (resolved_chain_view q chain);
+          } ∷ shared_groups_of entries []
+          else shared_group_of entry [] ∷ with_exporter name_of_view is_along_stars (shared_groups_of entries []) (resolved_chain_view q chain))
+      by true is have zero here short rest = ap (λ group. group ∷ shared_groups_of entries []) (after_one q chain entry [] is
+          (ap (λ c. is_along_stars (resolved_chain_view q c)) (same_Some entry.1 first have) ∙ along))
+      by true is have (suc j) here short rest = absurd (omega (arith, here))
+      by false is have zero here short rest = absurd (omega (arith, here))
+      by false is have (suc j) here short rest =
+          ap (λ groups. shared_group_of entry [] ∷ groups) (rest j (omega (arith, here)) (omega (arith, short)) have)
+  put_at along (entry ∷ entries) (shadowed ∷ lists) i at within had =
+      by (is_key q entry.0) refl had i at within (λ j index short have. put_at along entries lists j index short have)
+    where
+      by : (b : Bool) → is_key q entry.0 ≡ b → cond b (Some entry.1) (lookup (is_key q) entries) ≡ Some first → (j : ℕ)
+          → cond (not b) (1 + position_or_len (is_key q) (keys_of entries)) 0 ≡ j → j < suc (length (keys_of entries))
+          → ((k : ℕ) → position_or_len (is_key q) (keys_of entries) ≡ k → k < length (keys_of entries) → lookup (is_key q) entries ≡ Some first
+          → shared_groups_of entries (with_later_chain k chain lists)
+          ≡ with_exporter name_of_view is_along_stars (shared_groups_of entries lists) (resolved_chain_view q chain))
+          → shared_groups_of (entry ∷ entries) (with_later_chain j chain (shadowed ∷ lists)) ≡ (if b then record {
+            name = string_bytes entry.0;
+            exporters = with_later_exporter is_along_stars (shared_group_of entry shadowed).exporters (resolved_chain_view q chain);
+          } ∷ shared_groups_of entries lists
+          else shared_group_of entry shadowed ∷ with_exporter name_of_view is_along_stars (shared_groups_of entries lists) (resolved_chain_view q chain))
+      by true is have zero here short rest = ap (λ group. group ∷ shared_groups_of entries lists) (after_one q chain entry shadowed is
+          (ap (λ c. is_along_stars (resolved_chain_view q c)) (same_Some entry.1 first have) ∙ along))
+      by true is have (suc j) here short rest = absurd (omega (arith, here))
+      by false is have zero here short rest = absurd (omega (arith, here))
+      by false is have (suc j) here short rest =
+          ap (λ groups. shared_group_of entry shadowed ∷ groups) (rest j (omega (arith, here)) (omega (arith, short)) have)
+
+module _ (q : List ℕ) (re_exports : List (ModuleId × List ℕ)) (export : ResolvedExport) (first : ExportChain) where
+  abbrev view : ResolvedExportView
+  view = record { name = q; statements = re_exports; export = export }
+
+  -- a chain of a name whose first chain isn't along an `export *` changes no group
+  one_explicit : (entry : NameEntry) (shadowed : List ExportChain) → is_along_stars (resolved_export_view entry) ≡ false
+      → shared_group_of entry shadowed ≡ record {
+        name = string_bytes entry.0;
+        exporters = with_later_exporter is_along_stars (shared_group_of entry shadowed).exporters view;
+      }
+  one_explicit entry shadowed explicit = rw explicit refl
+
+  pub explicit_stays : is_along_stars (resolved_chain_view q first) ≡ false → (entries : List NameEntry) (lists : List (List ExportChain))
+      → lookup (is_key q) entries ≡ Some first
+      → shared_groups_of entries lists ≡ with_exporter name_of_view is_along_stars (shared_groups_of entries lists) view
+  explicit_stays explicit [] lists had = absurd (none-some first had)
+  explicit_stays explicit (entry ∷ entries) [] had = by (is_key q entry.0) had (λ have. explicit_stays explicit entries [] have)
+    where
+      by : (b : Bool) → cond b (Some entry.1) (lookup (is_key q) entries) ≡ Some first → (lookup (is_key q) entries ≡ Some first → shared_groups_of entries []
+          ≡ with_exporter name_of_view is_along_stars (shared_groups_of entries []) view)
+          → shared_group_of entry [] ∷ shared_groups_of entries [] ≡ (if b then record {
+            name = string_bytes entry.0;
+            exporters = with_later_exporter is_along_stars (shared_group_of entry []).exporters view;
+          } ∷ shared_groups_of entries []
+          else shared_group_of entry [] ∷ with_exporter name_of_view is_along_stars (shared_groups_of entries []) view)
+      by true have rest = ap (λ group. group ∷ shared_groups_of entries []) (one_explicit entry []
+          (ap (λ c. is_along_stars (resolved_chain_view q c)) (same_Some entry.1 first have) ∙ explicit))
+      by false have rest = ap (λ groups. shared_group_of entry [] ∷ groups) (rest have)
+  explicit_stays explicit (entry ∷ entries) (shadowed ∷ lists) had = by (is_key q entry.0) had (λ have. explicit_stays explicit entries lists have)
+    where
+      by : (b : Bool) → cond b (Some entry.1) (lookup (is_key q) entries) ≡ Some first
+          → (lookup (is_key q) entries ≡ Some first → shared_groups_of entries lists
+          ≡ with_exporter name_of_view is_along_stars (shared_groups_of entries lists) view)
+          → shared_group_of entry shadowed ∷ shared_groups_of entries lists ≡ (if b then record {
+            name = string_bytes entry.0;
+            exporters = with_later_exporter is_along_stars (shared_group_of entry shadowed).exporters view;
+          } ∷ shared_groups_of entries lists
+          else shared_group_of entry shadowed ∷ with_exporter name_of_view is_along_stars (shared_groups_of entries lists) view)
+      by true have rest = ap (λ group. group ∷ shared_groups_of entries lists) (one_explicit entry shadowed
+          (ap (λ c. is_along_stars (resolved_chain_view q c)) (same_Some entry.1 first have) ∙ explicit))
+      by false have rest = ap (λ groups. shared_group_of entry shadowed ∷ groups) (rest have)
 
 -- the index of a name in the map
 placed : (q : List ℕ) (entries : List NameEntry) (i : ℕ) → Some i ≡ position (is_key q) (keys_of entries)
@@ -92,16 +156,18 @@ placed q entries i found = by (nat_lt (position_or_len (is_key q) (keys_of entri
         (index, omega (arith, index, short))
     by false is some = absurd (none-some i (sym some))
 
-pub push_under : (q : List ℕ) (chain : ExportChain) (entries : List NameEntry) (lists : List (List ExportChain)) (i : ℕ)
-    → Some i ≡ position (is_key q) (keys_of entries)
-    → shared_groups_of entries (with_later_chain i chain lists) ≡ with_exporter name_of_view (shared_groups_of entries lists) (resolved_chain_view q chain)
-push_under q chain entries lists i found = put_at q chain entries lists i (placed q entries i found).0 (placed q entries i found).1
+pub push_under : (q : List ℕ) (chain first : ExportChain) (entries : List NameEntry) (lists : List (List ExportChain)) (i : ℕ)
+    → Some i ≡ position (is_key q) (keys_of entries) → lookup (is_key q) entries ≡ Some first → is_along_stars (resolved_chain_view q first) ≡ true
+    → shared_groups_of entries (with_later_chain i chain lists)
+    ≡ with_exporter name_of_view is_along_stars (shared_groups_of entries lists) (resolved_chain_view q chain)
+push_under q chain first entries lists i found had along =
+    put_at q chain first along entries lists i (placed q entries i found).0 (placed q entries i found).1 had
 
 -- ---- and of an unknown name
 
 pub put_new : (q : List ℕ) (chain : ExportChain) (entries : List NameEntry) (lists : List (List ExportChain)) (key : String Global) → length lists
     ≤ length entries → is_some (lookup (is_key q) entries) ≡ false → string_bytes key ≡ q → shared_groups_of (insert_entry
-    (λ a b. bytes_eq (string_bytes a) (string_bytes b)) entries key chain) lists ≡ with_exporter name_of_view (shared_groups_of entries lists)
+    (λ a b. bytes_eq (string_bytes a) (string_bytes b)) entries key chain) lists ≡ with_exporter name_of_view is_along_stars (shared_groups_of entries lists)
     (resolved_chain_view q chain)
 put_new q chain [] [] key few new called = λ k. record { name = called k; exporters = resolved_chain_view (called k) chain ∷ [] } ∷ []
 put_new q chain [] (shadowed ∷ lists) key few new called = absurd (omega (arith, few))
@@ -110,12 +176,15 @@ put_new q chain (entry ∷ entries) [] key few new called = by (bytes_eq q (stri
   where
     by : (b c : Bool) → c ≡ b → is_some (cond b (Some entry.1) (lookup (is_key q) entries)) ≡ false → (is_some (lookup (is_key q) entries) ≡ false
         → shared_groups_of (insert_entry (λ a d. bytes_eq (string_bytes a) (string_bytes d)) entries key chain) []
-        ≡ with_exporter name_of_view (shared_groups_of entries []) (resolved_chain_view q chain))
+        ≡ with_exporter name_of_view is_along_stars (shared_groups_of entries []) (resolved_chain_view q chain))
         → shared_groups_of (if c then (entry.0, chain) ∷ entries else entry
         ∷ insert_entry (λ a d. bytes_eq (string_bytes a) (string_bytes d)) entries key chain) []
-        ≡ (if b then record { name = string_bytes entry.0; exporters = (shared_group_of entry []).exporters ++ resolved_chain_view q chain ∷ [] }
+        ≡ (if b then record {
+          name = string_bytes entry.0;
+          exporters = with_later_exporter is_along_stars (shared_group_of entry []).exporters (resolved_chain_view q chain);
+        }
         ∷ shared_groups_of entries []
-        else shared_group_of entry [] ∷ with_exporter name_of_view (shared_groups_of entries []) (resolved_chain_view q chain))
+        else shared_group_of entry [] ∷ with_exporter name_of_view is_along_stars (shared_groups_of entries []) (resolved_chain_view q chain))
     by true c same is rest = absurd (true≢false is)
     by false true same is rest = absurd (true≢false same)
     by false false same is rest = ap (λ groups. shared_group_of entry [] ∷ groups) (rest is)
@@ -125,13 +194,16 @@ put_new q chain (entry ∷ entries) (shadowed ∷ lists) key few new called = by
   where
     by : (b c : Bool) → c ≡ b → is_some (cond b (Some entry.1) (lookup (is_key q) entries)) ≡ false → (is_some (lookup (is_key q) entries) ≡ false
         → shared_groups_of (insert_entry (λ a d. bytes_eq (string_bytes a) (string_bytes d)) entries key chain) lists
-        ≡ with_exporter name_of_view (shared_groups_of entries lists) (resolved_chain_view q chain))
+        ≡ with_exporter name_of_view is_along_stars (shared_groups_of entries lists) (resolved_chain_view q chain))
         → shared_groups_of (if c then (entry.0, chain) ∷ entries else entry
         ∷ insert_entry (λ a d. bytes_eq (string_bytes a) (string_bytes d)) entries key chain)
         (shadowed ∷ lists) ≡
-        (if b then record { name = string_bytes entry.0; exporters = (shared_group_of entry shadowed).exporters ++ resolved_chain_view q chain ∷ [] }
+        (if b then record {
+          name = string_bytes entry.0;
+          exporters = with_later_exporter is_along_stars (shared_group_of entry shadowed).exporters (resolved_chain_view q chain);
+        }
         ∷ shared_groups_of entries lists else shared_group_of entry shadowed
-        ∷ with_exporter name_of_view (shared_groups_of entries lists) (resolved_chain_view q chain))
+        ∷ with_exporter name_of_view is_along_stars (shared_groups_of entries lists) (resolved_chain_view q chain))
     by true c same is rest = absurd (true≢false is)
     by false true same is rest = absurd (true≢false same)
     by false false same is rest = ap (λ groups. shared_group_of entry shadowed ∷ groups) (rest is)
@@ -184,36 +256,40 @@ lists_few (suc index) chain (traces ∷ lists) (suc n) few within = let rest = l
 -- ---- which names are shared
 
 -- names with one chain each aren't shared
-pub one_trace_each : (entries : List NameEntry) → shared_groups is_along_stars (shared_groups_of entries []) ≡ []
+pub one_trace_each : (entries : List NameEntry) → groups_with_shared_exporters is_along_stars (shared_groups_of entries []) ≡ []
 one_trace_each [] = refl
 one_trace_each (entry ∷ entries) = one_trace_each entries
 
 -- a name that isn't shared is left out
 pub passed_over : (entry : NameEntry) (entries : List NameEntry) (traces : List ExportChain) (lists : List (List ExportChain))
-    → is_shared_group is_along_stars (resolved_chain_view (string_bytes entry.0) entry.1 ∷ map (resolved_chain_view (string_bytes entry.0)) traces) ≡ false
-    → shared_groups is_along_stars (shared_groups_of entries lists) ≡ shared_groups is_along_stars (shared_groups_of (entry ∷ entries) (traces ∷ lists))
+    → has_shared_exporters is_along_stars (resolved_chain_view (string_bytes entry.0) entry.1 ∷ map (resolved_chain_view (string_bytes entry.0)) traces) ≡ false
+    → groups_with_shared_exporters is_along_stars (shared_groups_of entries lists) ≡ groups_with_shared_exporters is_along_stars
+    (shared_groups_of (entry ∷ entries) (traces ∷ lists))
 passed_over entry entries traces lists is = rw is refl
 
 -- a shared name is added after the others
 pub shared_after : (entry : NameEntry) (entries : List NameEntry) (traces : List ExportChain) (lists : List (List ExportChain)) (shared after : List SharedName)
     (more : SharedName)
-    → is_shared_group is_along_stars (resolved_chain_view (string_bytes entry.0) entry.1 ∷ map (resolved_chain_view (string_bytes entry.0)) traces) ≡ true
+    → has_shared_exporters is_along_stars (resolved_chain_view (string_bytes entry.0) entry.1 ∷ map (resolved_chain_view (string_bytes entry.0)) traces) ≡ true
     → after ≡ shared ++ more ∷ [] → string_bytes more.name ≡ string_bytes entry.0
     → map (resolved_chain_view (string_bytes entry.0)) more.exporters.items ≡ resolved_chain_view (string_bytes entry.0) entry.1
     ∷ map (resolved_chain_view (string_bytes entry.0)) traces
-    → resolved_shared_name_views after ++ shared_groups is_along_stars (shared_groups_of entries lists)
-    ≡ resolved_shared_name_views shared ++ shared_groups is_along_stars (shared_groups_of (entry ∷ entries) (traces ∷ lists))
+    → resolved_shared_name_views after ++ groups_with_shared_exporters is_along_stars (shared_groups_of entries lists)
+    ≡ resolved_shared_name_views shared ++ groups_with_shared_exporters is_along_stars (shared_groups_of (entry ∷ entries) (traces ∷ lists))
 shared_after entry entries traces lists shared after more is pushed named exporters =
     let view : resolved_shared_name_view more ≡ shared_group_of entry traces =
     (λ i. record { name = named i; exporters = map (resolved_chain_view (named i)) more.exporters.items })
     ∙ (λ i. record { name = string_bytes entry.0; exporters = exporters i }) in
-    ap (λ names. resolved_shared_name_views names ++ shared_groups is_along_stars (shared_groups_of entries lists)) pushed
-    ∙ (ap (λ views. views ++ shared_groups is_along_stars (shared_groups_of entries lists)) (map-append resolved_shared_name_view shared (more ∷ []))
-    ∙ (append_assoc (resolved_shared_name_views shared) (resolved_shared_name_view more ∷ []) (shared_groups is_along_stars (shared_groups_of entries lists))
-    ∙ (ap (λ v. resolved_shared_name_views shared ++ v ∷ shared_groups is_along_stars (shared_groups_of entries lists)) view ∙ rw is refl)))
+    ap (λ names. resolved_shared_name_views names ++ groups_with_shared_exporters is_along_stars (shared_groups_of entries lists)) pushed
+    ∙ (ap (λ views. views ++ groups_with_shared_exporters is_along_stars (shared_groups_of entries lists)) (map-append resolved_shared_name_view shared
+    (more ∷ []))
+    ∙ (append_assoc (resolved_shared_name_views shared) (resolved_shared_name_view more ∷ []) (groups_with_shared_exporters is_along_stars
+    (shared_groups_of entries lists))
+    ∙ (ap (λ v. resolved_shared_name_views shared ++ v ∷ groups_with_shared_exporters is_along_stars (shared_groups_of entries lists)) view ∙ rw is refl)))
 
 -- if no lists are left, no later name is shared
 pub none_left : (entries : List NameEntry) (lists : List (List ExportChain)) (shared all : List (NameWithExporters ResolvedExportView))
-    → shared ++ shared_groups is_along_stars (shared_groups_of entries lists) ≡ all → lists ≡ [] → shared ≡ all
+    → shared ++ groups_with_shared_exporters is_along_stars (shared_groups_of entries lists) ≡ all → lists ≡ [] → shared ≡ all
 none_left entries lists shared all are none = sym (append-nil shared)
-    ∙ (ap (λ more. shared ++ more) (sym (one_trace_each entries) ∙ ap (λ ls. shared_groups is_along_stars (shared_groups_of entries ls)) (sym none)) ∙ are)
+    ∙ (ap (λ more. shared ++ more) (sym (one_trace_each entries) ∙ ap (λ ls. groups_with_shared_exporters is_along_stars (shared_groups_of entries ls))
+    (sym none)) ∙ are)

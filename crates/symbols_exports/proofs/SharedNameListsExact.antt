@@ -10,10 +10,11 @@ use Rattle.symbols_table.specs.Events.{default_export_name}
 use Rattle.symbols_exports.specs.Chains.{chain_end_module, IsSimpleChain, IsChainBefore, IsLeastChain}
 use Rattle.symbols_exports.specs.Exports.{ExportEntry, IsExportCandidate, IsExport, IsExportEntryBefore}
 use Rattle.symbols_exports.specs.SharedNames.{NameWithExporters, IsExporter, HasTwoExporters, IsSharedNameEntry, IsSharedNameBefore, AreSharedNames}
-use Rattle.symbols_exports.specs.SharedNameLists.{reached_modules_of, export_candidates_of, grouped_by_name, is_shared_group, is_nonempty_chain}
+use Rattle.symbols_exports.specs.SharedNameLists.{star_reached_modules_of, export_candidates_along_chains, grouped_by_name, has_shared_exporters}
+use Rattle.symbols_exports.specs.SharedNameLists.{is_nonempty_chain}
 use Rattle.symbols_exports.specs.SharedNameLists.{shared_names_of}
 use Rattle.symbols_exports.specs.StarStatements.{star_targets_of, explicit_exports_of}
-use Rattle.symbols_exports.specs.Traces.{StarTrace, export_candidates_along_chain}
+use Rattle.symbols_exports.specs.Traces.{StarWalkVisit, export_candidates_along_chain}
 use Rattle.symbols_exports.proofs.DistinctNames.{exports_once}
 use Rattle.symbols_exports.proofs.ExportLists.{flat_from, contains_flat, flat_sorted, candidate_from, candidate_there}
 use Rattle.symbols_exports.proofs.ExportLists.{candidate_sorted, covered, is_export, apart, apart_itself}
@@ -41,18 +42,19 @@ abbrev along : ExportEntry → Bool
 along e = is_nonempty_chain e.chain
 
 -- a shared group has two elements, the first along an `export *`
-begins : (xs : List ExportEntry) → is_shared_group along xs ≡ true
+begins : (xs : List ExportEntry) → has_shared_exporters along xs ≡ true
     → (x : ExportEntry) × (y : ExportEntry) × (rest : List ExportEntry) × (xs ≡ x ∷ y ∷ rest) × (is_nonempty_chain x.chain ≡ true)
 begins [] is = absurd (true≢false (sym is))
 begins (x ∷ []) is = absurd (true≢false (sym is))
 begins (x ∷ y ∷ rest) is = (x, y, rest, refl, is)
 
 -- a group with two different elements, and the first along an `export *`, is shared
-are_two : (xs : List ExportEntry) (x y : ExportEntry) → Contains xs x → Contains xs y → (x ≡ y → ⊥) → ((e : ExportEntry) → Contains xs e → e.chain ≡ [] → ⊥)
-    → is_shared_group along xs ≡ true
-are_two [] x y has_x has_y differ following = absurd (contains_nothing x has_x)
-are_two (a ∷ []) x y has_x has_y differ following = absurd (differ (sym (only_one a x has_x) ∙ only_one a y has_y))
-are_two (a ∷ b ∷ rest) x y has_x has_y differ following = by a.chain (following a (contains_first a (b ∷ rest)))
+exporters_are_different : (xs : List ExportEntry) (x y : ExportEntry) → Contains xs x → Contains xs y → (x ≡ y → ⊥) →
+    ((e : ExportEntry) → Contains xs e → e.chain ≡ [] → ⊥)
+    → has_shared_exporters along xs ≡ true
+exporters_are_different [] x y has_x has_y differ following = absurd (contains_nothing x has_x)
+exporters_are_different (a ∷ []) x y has_x has_y differ following = absurd (differ (sym (only_one a x has_x) ∙ only_one a y has_y))
+exporters_are_different (a ∷ b ∷ rest) x y has_x has_y differ following = by a.chain (following a (contains_first a (b ∷ rest)))
   where
     by : (chain : List ℕ) → (chain ≡ [] → ⊥) → is_nonempty_chain chain ≡ true
     by [] never = absurd (never refl)
@@ -65,44 +67,54 @@ chain_not_nothing (k ∷ chain) is none = cc
 -- the module where the chains begin has the empty chain
 nothing_is_least : (graph : GraphView) (start : List ℕ) → IsLeastChain (star_targets_of graph) start [] start
 nothing_is_least graph start =
-    record { is_chain = record { ends_at = refl; once = λ j k j_in k_in same. omega (arith, j_in, k_in) }; least = λ other simple. beginning_up_to 0 other }
+    record {
+      is_chain = record { ends_at = refl; has_no_duplicates = λ j k j_in k_in same. omega (arith, j_in, k_in) };
+      least =
+          λ other simple. beginning_up_to 0 other;
+    }
 
 module _ (graph : GraphView) (start : List ℕ) where
   abbrev candidates : List ExportEntry
-  candidates = export_candidates_of (explicit_exports_of graph) (reached_modules_of graph start)
+  candidates = export_candidates_along_chains (explicit_exports_of graph) (star_reached_modules_of graph start)
 
   -- ---- the candidates
 
-  abbrev trace_to : Visit → StarTrace
+  abbrev trace_to : Visit → StarWalkVisit
   trace_to m = record { chain = m.0; end = m.1; unresolved_at = None }
 
   -- a candidate is a local export of a reachable module, by its least chain
   is_one_candidate : (e : ExportEntry) → Contains candidates e → IsLeastChain (star_targets_of graph) start e.chain e.exporter
       × Contains (explicit_exports_of graph e.exporter) (e.name, e.symbol) × (e.name ≡ default_export_name → e.chain ≡ [])
   is_one_candidate e has =
-      let from = flat_from (λ (m : Visit). export_candidates_along_chain m.0 m.1 (explicit_exports_of graph m.1)) (reached_modules_of graph start) e has in
+      let from = flat_from (λ (m : Visit). export_candidates_along_chain m.0 m.1 (explicit_exports_of graph m.1)) (star_reached_modules_of graph start) e has in
       let by = candidate_from (explicit_exports_of graph) (trace_to from.0) e from.2 in
       let this : from.0 ≡ (e.chain, e.exporter) = (λ i. (sym by.1 i, sym by.2 i)) in (
-        ((reached_are_listed graph start).all e.chain e.exporter).0 (subst (Contains (reached_modules_of graph start)) this from.1),
+        ((reached_are_listed graph start).all e.chain e.exporter).0 (subst (Contains (star_reached_modules_of graph start)) this from.1),
         subst (λ u. Contains (explicit_exports_of graph u) (e.name, e.symbol)) (sym by.2) by.3,
         λ same. by.1 ∙ by.4 same,
       )
 
   candidate_at_end : (e : ExportEntry) → IsLeastChain (star_targets_of graph) start e.chain e.exporter
       → Contains (explicit_exports_of graph e.exporter) (e.name, e.symbol) → (e.name ≡ default_export_name → e.chain ≡ []) → Contains candidates e
-  candidate_at_end e least exports_name passed = contains_flat (λ (m : Visit). export_candidates_along_chain m.0 m.1 (explicit_exports_of graph m.1))
-      (reached_modules_of graph start)
+  candidate_at_end e least exporter_exports_name_explicitly passed = contains_flat (λ (m : Visit). export_candidates_along_chain m.0 m.1
+      (explicit_exports_of graph m.1))
+      (star_reached_modules_of graph start)
       (e.chain, e.exporter) e (((reached_are_listed graph start).all e.chain e.exporter).1 least)
-      (candidate_there (explicit_exports_of graph) e.chain e.exporter e.name e.symbol exports_name passed)
+      (candidate_there (explicit_exports_of graph) e.chain e.exporter e.name e.symbol exporter_exports_name_explicitly passed)
 
   was_candidate : (e : ExportEntry) → Contains candidates e → IsExportCandidate (star_targets_of graph) (explicit_exports_of graph) start e
-  was_candidate e has = let is = is_one_candidate e has in record { ends_at = is.0.is_chain; exports_name = is.1; passed = is.2 }
+  was_candidate e has = let is = is_one_candidate e has in record {
+    ends_at = is.0.is_chain;
+    exporter_exports_name_explicitly = is.1;
+    default_has_empty_chain =
+        is.2;
+  }
 
   candidates_sorted : IsSorted (IsExportEntryBefore (explicit_exports_of graph)) candidates
   candidates_sorted = flat_sorted (λ (x y : Visit). IsChainBefore x.0 y.0) (IsExportEntryBefore (explicit_exports_of graph))
       (λ (m : Visit). export_candidates_along_chain m.0 m.1
-      (explicit_exports_of graph m.1)) (λ m. candidate_sorted (explicit_exports_of graph) (trace_to m)) across (reached_modules_of graph start)
-      (pairs_sorted (λ (x y : Visit). IsChainBefore x.0 y.0) (reached_modules_of graph start) (reached_are_listed graph start).ordered)
+      (explicit_exports_of graph m.1)) (λ m. candidate_sorted (explicit_exports_of graph) (trace_to m)) across (star_reached_modules_of graph start)
+      (pairs_sorted (λ (x y : Visit). IsChainBefore x.0 y.0) (star_reached_modules_of graph start) (reached_are_listed graph start).ordered)
     where
       across : (x y : Visit) → IsChainBefore x.0 y.0 → (a b : ExportEntry) → Contains (export_candidates_along_chain x.0 x.1 (explicit_exports_of graph x.1)) a
           → Contains (export_candidates_along_chain y.0 y.1 (explicit_exports_of graph y.1)) b → IsExportEntryBefore (explicit_exports_of graph) a b
@@ -172,16 +184,22 @@ module _ (graph : GraphView) (start : List ℕ) where
     exporter_from e has =
         let from = in_candidates e has in
         let is = is_one_candidate e from.0 in
-        record { named = from.1; ends_at = is.0; exports_name = subst (λ q. Contains (explicit_exports_of graph e.exporter) (q, e.symbol)) from.1 is.1 }
+        record {
+          named = from.1;
+          ends_at = is.0;
+          exporter_exports_name_explicitly = subst (λ q. Contains (explicit_exports_of graph e.exporter)
+              (q, e.symbol)) from.1 is.1;
+        }
 
     exporter_there : (group.name ≡ default_export_name → ⊥) → (e : ExportEntry)
         → IsExporter (star_targets_of graph) (explicit_exports_of graph) start group.name e
         → Contains group.exporters e
     exporter_there passed e exporter = in_exporters e (candidate_at_end e exporter.ends_at (subst (λ q. Contains (explicit_exports_of graph e.exporter)
-        (q, e.symbol)) (sym exporter.named) exporter.exports_name) (λ default. absurd (passed (sym exporter.named ∙ default)))) exporter.named
+        (q, e.symbol)) (sym exporter.named) exporter.exporter_exports_name_explicitly) (λ default. absurd (passed
+        (sym exporter.named ∙ default)))) exporter.named
 
     -- if the group is shared
-    module _ (is : is_shared_group along group.exporters ≡ true) where
+    module _ (is : has_shared_exporters along group.exporters ≡ true) where
       parts : (x : ExportEntry) × (y : ExportEntry) × (rest : List ExportEntry) × (group.exporters ≡ x ∷ y ∷ rest) × (is_nonempty_chain x.chain ≡ true)
       parts = begins group.exporters is
 
@@ -194,16 +212,16 @@ module _ (graph : GraphView) (start : List ℕ) where
       first_before : IsChainBefore parts.0.chain parts.1.chain
       first_before = (subst (IsSorted (λ (x y : ExportEntry). IsChainBefore x.chain y.chain)) parts.3 chains_sorted).0 parts.1 (contains_first parts.1 parts.2)
 
-      not_default : group.name ≡ default_export_name → ⊥
-      not_default default = chain_not_nothing parts.0.chain parts.4
+      is_not_default : group.name ≡ default_export_name → ⊥
+      is_not_default default = chain_not_nothing parts.0.chain parts.4
           ((is_one_candidate parts.0 (in_candidates parts.0 has_first).0).2 ((in_candidates parts.0 has_first).1 ∙ default))
 
       -- the first comes before all others, so the start isn't one of them
-      not_explicit : (symbol : SymbolId) → Contains (explicit_exports_of graph start) (group.name, symbol) → ⊥
-      not_explicit symbol exports_name =
+      is_not_exported_by_start : (symbol : SymbolId) → Contains (explicit_exports_of graph start) (group.name, symbol) → ⊥
+      is_not_exported_by_start symbol exporter_exports_name_explicitly =
           let exported : ExportEntry = record { name = group.name; chain = []; exporter = start; symbol = symbol } in
           let has : Contains group.exporters exported =
-          in_exporters exported (candidate_at_end exported (nothing_is_least graph start) exports_name (λ default. refl)) refl in
+          in_exporters exported (candidate_at_end exported (nothing_is_least graph start) exporter_exports_name_explicitly (λ default. refl)) refl in
           before_it exported has (first_or_later parts.0 (parts.1 ∷ parts.2) exported (subst (λ es. Contains es exported) parts.3 has)) refl
         where
           before_it : (exported : ExportEntry) → Contains group.exporters exported → (parts.0 ≡ exported) ⊎ Contains (parts.1 ∷ parts.2) exported
@@ -218,9 +236,9 @@ module _ (graph : GraphView) (start : List ℕ) where
       two = record {
         one = parts.0;
         other = parts.1;
-        first_exports_name = exporter_from parts.0 has_first;
-        second_exports_name = exporter_from parts.1 has_second;
-        are_two = λ exporters.
+        one_is_exporter = exporter_from parts.0 has_first;
+        other_is_exporter = exporter_from parts.1 has_second;
+        exporters_are_different = λ exporters.
             let from = in_candidates parts.0 has_first in
             let from_other = in_candidates parts.1 has_second in
             let same = one_of_exporter parts.0 parts.1 from.0 from_other.0 (from.1 ∙ sym from_other.1) exporters in
@@ -229,15 +247,15 @@ module _ (graph : GraphView) (start : List ℕ) where
 
       shared_there : IsSharedNameEntry (star_targets_of graph) (explicit_exports_of graph) start group
       shared_there = record {
-        is_shared = record { not_default = not_default; not_explicit = not_explicit; two = two };
-        exporters = λ e. (exporter_from e, exporter_there not_default e);
+        is_shared = record { is_not_default = is_not_default; is_not_exported_by_start = is_not_exported_by_start; two = two };
+        exporters = λ e. (exporter_from e, exporter_there is_not_default e);
         ordered = sorted_pairs (λ (x y : ExportEntry). IsChainBefore x.chain y.chain) group.exporters chains_sorted;
       }
 
   -- ---- the shared names
 
   abbrev retained : NameWithExporters ExportEntry → Bool
-  retained group = is_shared_group along group.exporters
+  retained group = has_shared_exporters along group.exporters
 
   is_shared : (shared : NameWithExporters ExportEntry) → Contains (shared_names_of graph start) shared
       → IsSharedNameEntry (star_targets_of graph) (explicit_exports_of graph) start shared
@@ -247,13 +265,13 @@ module _ (graph : GraphView) (start : List ℕ) where
       → Contains (shared_names_of graph start) shared
   is_listed shared they =
       let two = they.is_shared.two in
-      let one_there : Contains candidates two.one = candidate_at_end two.one two.first_exports_name.ends_at
-      (subst (λ q. Contains (explicit_exports_of graph two.one.exporter) (q, two.one.symbol)) (sym two.first_exports_name.named)
-      two.first_exports_name.exports_name)
-      (λ default. absurd (they.is_shared.not_default (sym two.first_exports_name.named ∙ default))) in
+      let one_there : Contains candidates two.one = candidate_at_end two.one two.one_is_exporter.ends_at
+      (subst (λ q. Contains (explicit_exports_of graph two.one.exporter) (q, two.one.symbol)) (sym two.one_is_exporter.named)
+      two.one_is_exporter.exporter_exports_name_explicitly)
+      (λ default. absurd (they.is_shared.is_not_default (sym two.one_is_exporter.named ∙ default))) in
       let found = has_group entry_name candidates two.one one_there in
-      let named : found.0.name ≡ shared.name = found.2 ∙ two.first_exports_name.named in
-      let passed : found.0.name ≡ default_export_name → ⊥ = (λ default. they.is_shared.not_default (sym named ∙ default)) in
+      let named : found.0.name ≡ shared.name = found.2 ∙ two.one_is_exporter.named in
+      let passed : found.0.name ≡ default_export_name → ⊥ = (λ default. they.is_shared.is_not_default (sym named ∙ default)) in
       let exporters : found.0.exporters ≡ shared.exporters = same_sorted (λ (x y : ExportEntry). IsChainBefore x.chain y.chain) found.0.exporters
       shared.exporters
       (λ x y has_x has_y before following. never_before_itself x.chain (before_then_before x.chain y.chain x.chain before following)) (chains_sorted found.0
@@ -264,12 +282,12 @@ module _ (graph : GraphView) (start : List ℕ) where
             (subst (λ q. IsExporter (star_targets_of graph) (explicit_exports_of graph) start q e) (sym named) ((they.exporters e).0 has)),
       )) in
       let same : found.0 ≡ shared = (λ i. record { name = named i; exporters = exporters i }) in
-      let has_one : Contains found.0.exporters two.one = subst (λ es. Contains es two.one) (sym exporters) ((they.exporters two.one).1 two.first_exports_name)
+      let has_one : Contains found.0.exporters two.one = subst (λ es. Contains es two.one) (sym exporters) ((they.exporters two.one).1 two.one_is_exporter)
       in
       let has_other : Contains found.0.exporters two.other =
-      subst (λ es. Contains es two.other) (sym exporters) ((they.exporters two.other).1 two.second_exports_name) in
-      let is : is_shared_group along found.0.exporters ≡ true = are_two found.0.exporters two.one two.other has_one has_other (λ equal.
-      two.are_two (ap (λ (e : ExportEntry). e.exporter) equal)) (following found.0 found.1 named) in
+      subst (λ es. Contains es two.other) (sym exporters) ((they.exporters two.other).1 two.other_is_exporter) in
+      let is : has_shared_exporters along found.0.exporters ≡ true = exporters_are_different found.0.exporters two.one two.other has_one has_other (λ equal.
+      two.exporters_are_different (ap (λ (e : ExportEntry). e.exporter) equal)) (following found.0 found.1 named) in
       subst (Contains (shared_names_of graph start)) same (contains_filtered retained (grouped_by_name entry_name candidates) found.0 found.1 is)
     where
       following : (group : NameWithExporters ExportEntry) → Contains (grouped_by_name entry_name candidates) group → group.name ≡ shared.name
@@ -279,8 +297,8 @@ module _ (graph : GraphView) (start : List ℕ) where
           let exporter = exporter_from group has_it e has in
           let at_start : start ≡ e.exporter =
           same_Some start e.exporter (sym (ap (chain_end_module (star_targets_of graph) start) none) ∙ exporter.ends_at.is_chain.ends_at) in
-          they.is_shared.not_explicit e.symbol (subst (λ u. Contains (explicit_exports_of graph u) (shared.name, e.symbol)) (sym at_start)
-          (subst (λ q. Contains (explicit_exports_of graph e.exporter) (q, e.symbol)) named exporter.exports_name))
+          they.is_shared.is_not_exported_by_start e.symbol (subst (λ u. Contains (explicit_exports_of graph u) (shared.name, e.symbol)) (sym at_start)
+          (subst (λ q. Contains (explicit_exports_of graph e.exporter) (q, e.symbol)) named exporter.exporter_exports_name_explicitly))
 
   -- ---- their order
 
@@ -295,7 +313,13 @@ module _ (graph : GraphView) (start : List ℕ) where
           → IsExportCandidate (star_targets_of graph) (explicit_exports_of
           graph) start (record { name = e.name; chain = other; exporter = e.exporter; symbol = e.symbol })
       candidate_too other simple =
-          record { ends_at = simple; exports_name = export.candidate.exports_name; passed = λ default. absurd (passed (sym named ∙ default)) }
+          record {
+            ends_at = simple;
+            exporter_exports_name_explicitly = export.candidate.exporter_exports_name_explicitly;
+            default_has_empty_chain =
+                λ default. absurd
+                (passed (sym named ∙ default));
+          }
 
       least : IsLeastChain (star_targets_of graph) start e.chain e.exporter
       least = record {
@@ -305,7 +329,7 @@ module _ (graph : GraphView) (start : List ℕ) where
       }
 
       there : Contains candidates e
-      there = candidate_at_end e least export.candidate.exports_name export.candidate.passed
+      there = candidate_at_end e least export.candidate.exporter_exports_name_explicitly export.candidate.default_has_empty_chain
 
       by : (exporters : List ExportEntry) → Contains exporters e → IsSorted (λ (x y : ExportEntry). IsChainBefore x.chain y.chain) exporters
           → ((f : ExportEntry) → Contains exporters f → Contains candidates f × (f.name ≡ group.name)) → IsFirst e exporters
@@ -330,8 +354,8 @@ module _ (graph : GraphView) (start : List ℕ) where
       by_exports x y has_x has_y firsts = λ e f export_e export_f named_e named_f.
           let from_x = filtered_from retained (grouped_by_name entry_name candidates) x has_x in
           let from_y = filtered_from retained (grouped_by_name entry_name candidates) y has_y in
-          firsts e f (export_first x from_x.0 (not_default x from_x.0 from_x.1) e export_e named_e)
-          (export_first y from_y.0 (not_default y from_y.0 from_y.1) f export_f named_f)
+          firsts e f (export_first x from_x.0 (is_not_default x from_x.0 from_x.1) e export_e named_e)
+          (export_first y from_y.0 (is_not_default y from_y.0 from_y.1) f export_f named_f)
 
   pub shared_are_listed : AreSharedNames (star_targets_of graph) (explicit_exports_of graph) start (shared_names_of graph start)
   shared_are_listed = record {
@@ -344,15 +368,15 @@ module _ (graph : GraphView) (start : List ℕ) where
       → (e : ExportEntry) × IsExport (star_targets_of graph) (explicit_exports_of graph) start e × (e.name ≡ shared.name)
   export_there shared they =
       let two = they.is_shared.two in
-      let exports_name : Contains (explicit_exports_of graph two.one.exporter) (two.one.name, two.one.symbol) =
-      subst (λ q. Contains (explicit_exports_of graph two.one.exporter) (q, two.one.symbol)) (sym two.first_exports_name.named)
-      two.first_exports_name.exports_name in
+      let exporter_exports_name_explicitly : Contains (explicit_exports_of graph two.one.exporter) (two.one.name, two.one.symbol) =
+      subst (λ q. Contains (explicit_exports_of graph two.one.exporter) (q, two.one.symbol)) (sym two.one_is_exporter.named)
+      two.one_is_exporter.exporter_exports_name_explicitly in
       let found = covered graph start two.one (record {
-        ends_at = two.first_exports_name.ends_at.is_chain;
-        exports_name = exports_name;
-        passed = λ default. absurd (they.is_shared.not_default (sym two.first_exports_name.named ∙ default));
+        ends_at = two.one_is_exporter.ends_at.is_chain;
+        exporter_exports_name_explicitly = exporter_exports_name_explicitly;
+        default_has_empty_chain = λ default. absurd (they.is_shared.is_not_default (sym two.one_is_exporter.named ∙ default));
       }) in
-      (found.0, is_export graph start found.0 found.1, found.2 ∙ two.first_exports_name.named)
+      (found.0, is_export graph start found.0 found.1, found.2 ∙ two.one_is_exporter.named)
 
   -- no other list has them
   pub shared_are_one : (names : List (NameWithExporters ExportEntry)) → AreSharedNames (star_targets_of graph) (explicit_exports_of graph) start names

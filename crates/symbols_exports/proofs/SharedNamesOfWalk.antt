@@ -12,21 +12,22 @@ use Rattle.symbols_exports.specs.declared.name_filter.NameFilter.TheVariants.{Al
 use Rattle.symbols_exports.specs.Chains.{AreReachedByStars}
 use Rattle.symbols_exports.specs.Exports.{ExportEntry}
 use Rattle.symbols_exports.specs.SharedNames.{NameWithExporters}
-use Rattle.symbols_exports.specs.SharedNameLists.{export_candidates_of, grouped_by_name, is_shared_group, shared_groups, shared_among}
-use Rattle.symbols_exports.specs.SharedNameLists.{is_nonempty_chain, shared_views_by_rules, shared_name_entry_view, shared_name_view_of_resolved}
-use Rattle.symbols_exports.specs.SharedNameLists.{AreExportersStored}
-use Rattle.symbols_exports.specs.inner.Sharing.{is_along_stars}
+use Rattle.symbols_exports.specs.SharedNameLists.{export_candidates_along_chains, grouped_by_name, has_shared_exporters, groups_with_shared_exporters}
+use Rattle.symbols_exports.specs.SharedNameLists.{shared_names_among}
+use Rattle.symbols_exports.specs.SharedNameLists.{is_nonempty_chain, shared_name_views_if_strict, shared_name_view_of_entry, shared_name_view_of_resolved}
+use Rattle.symbols_exports.specs.SharedNameLists.{AreExporterModulesStored}
+use Rattle.symbols_exports.specs.inner.Collecting.{is_along_stars}
 use Rattle.symbols_exports.specs.StarStatements.{star_targets_of, explicit_exports_of}
 use Rattle.symbols_exports.specs.CollectedNames.{ResolvedExportView}
 use Rattle.symbols_exports.specs.inner.Collecting.{has_statements, with_exporters, name_of_view}
-use Rattle.symbols_exports.specs.ExportViews.{StarStatementView, ExportView, chain_statements, entry_export_view}
-use Rattle.symbols_exports.specs.ExportViews.{star_statement_by_specifier, export_by_specifier, IsExportStored, AreExportsStored}
+use Rattle.symbols_exports.specs.ExportViews.{StarStatementView, ExportView, chain_statements, export_view_of_entry}
+use Rattle.symbols_exports.specs.ExportViews.{star_statement_by_specifier, export_by_specifier, AreModulesOfExportStored, AreModulesOfExportsStored}
 use Rattle.symbols_exports.specs.inner.NameFilter.{collects_shared}
 use Rattle.symbols_exports.proofs.CandidatesOfWalk.{candidates_visited}
 use Rattle.symbols_exports.proofs.Cursors.{Visit}
 use Rattle.symbols_exports.proofs.ReachedLists.{reached_are_one}
 use Rattle.symbols_exports.proofs.SortedLists.{filtered_from}
-use Rattle.symbols_exports.proofs.GroupedByName.{exporters_are, all_together, shared_mapped}
+use Rattle.symbols_exports.proofs.GroupedByName.{exporters_are, all_shared, shared_mapped}
 use Rattle.symbols_exports.proofs.NameFilterLemmas.{nothing_viewed}
 
 -- whether an export comes along an `export *`, by its view
@@ -47,7 +48,7 @@ view_along root view = by view.statements
     by [] = refl
     by (statement ∷ rest) = refl
 
-entry_along : (graph : GraphView) (start : List ℕ) (entry : ExportEntry) → viewed_along (entry_export_view graph start entry) ≡ is_nonempty_chain entry.chain
+entry_along : (graph : GraphView) (start : List ℕ) (entry : ExportEntry) → viewed_along (export_view_of_entry graph start entry) ≡ is_nonempty_chain entry.chain
 entry_along graph start entry = by entry.chain
   where
     by : (chain : List ℕ) → has_statement (chain_statements graph start chain) ≡ is_nonempty_chain chain
@@ -63,47 +64,50 @@ entry_chained entry = is_nonempty_chain entry.chain
 -- candidates with the same views have the same shared names
 module _ (graph : GraphView) (root : RootView) (start : List ℕ) where
   shared_alike : (candidates : List ExportEntry) (views : List ResolvedExportView)
-      → map (entry_export_view graph start) candidates ≡ map (export_by_specifier root) views
-      → map (shared_name_view_of_resolved root) (shared_among name_of_view is_along_stars views) ≡ map (shared_name_entry_view graph start)
-      (shared_among entry_name entry_chained candidates)
+      → map (export_view_of_entry graph start) candidates ≡ map (export_by_specifier root) views
+      → map (shared_name_view_of_resolved root) (shared_names_among name_of_view is_along_stars views) ≡ map (shared_name_view_of_entry graph start)
+      (shared_names_among entry_name entry_chained candidates)
   shared_alike candidates views viewed =
-      ap (λ (along : ResolvedExportView → Bool). map (shared_name_view_of_resolved root) (shared_among name_of_view along views))
+      ap (λ (along : ResolvedExportView → Bool). map (shared_name_view_of_resolved root) (shared_names_among name_of_view along views))
       (λ i view. sym (view_along root view) i)
       ∙ (sym (shared_mapped (export_by_specifier root) viewed_called viewed_along views)
-      ∙ (ap (shared_among viewed_called viewed_along) (sym viewed)
-      ∙ (shared_mapped (entry_export_view graph start) viewed_called viewed_along candidates
-      ∙ ap (λ (along : ExportEntry → Bool). map (shared_name_entry_view graph start) (shared_among entry_name along candidates)) (λ i entry.
+      ∙ (ap (shared_names_among viewed_called viewed_along) (sym viewed)
+      ∙ (shared_mapped (export_view_of_entry graph start) viewed_called viewed_along candidates
+      ∙ ap (λ (along : ExportEntry → Bool). map (shared_name_view_of_entry graph start) (shared_names_among entry_name along candidates)) (λ i entry.
       entry_along graph start entry i))))
 
   -- if all reachable modules were visited
-  pub shared_are : (rules : Rules) (visited : List Visit) → AreReachedByStars (star_targets_of graph) start visited → (candidate : List ResolvedExportView)
-      → map (entry_export_view graph start) (candidates_visited (collects_shared AllNames rules) (explicit_exports_of graph) visited)
-      ≡ map (export_by_specifier root) candidate → map (shared_name_view_of_resolved root) (shared_groups is_along_stars (with_exporters [] candidate)) ≡
-      shared_views_by_rules rules graph start
-  shared_are Deno visited reached candidate viewed =
-      let none : candidate ≡ [] = nothing_viewed (export_by_specifier root) (entry_export_view graph start) candidate [] (sym viewed) refl in
-      ap (λ views. map (shared_name_view_of_resolved root) (shared_groups is_along_stars (with_exporters [] views))) none
-  shared_are Strict visited reached candidate viewed =
-      ap (λ groups. map (shared_name_view_of_resolved root) (shared_groups is_along_stars groups)) (all_together name_of_view [] candidate)
-      ∙ (shared_alike (export_candidates_of (explicit_exports_of graph) visited) candidate viewed
-      ∙ ap (λ ms. map (shared_name_entry_view graph start) (shared_among entry_name entry_chained (export_candidates_of (explicit_exports_of graph) ms)))
+  pub are_shared_names_by_rules : (rules : Rules) (visited : List Visit) → AreReachedByStars (star_targets_of graph) start visited →
+      (candidate : List ResolvedExportView)
+      → map (export_view_of_entry graph start) (candidates_visited (collects_shared AllNames rules) (explicit_exports_of graph) visited)
+      ≡ map (export_by_specifier root) candidate → map (shared_name_view_of_resolved root) (groups_with_shared_exporters is_along_stars
+      (with_exporters [] candidate)) ≡
+      shared_name_views_if_strict rules graph start
+  are_shared_names_by_rules Deno visited reached candidate viewed =
+      let none : candidate ≡ [] = nothing_viewed (export_by_specifier root) (export_view_of_entry graph start) candidate [] (sym viewed) refl in
+      ap (λ views. map (shared_name_view_of_resolved root) (groups_with_shared_exporters is_along_stars (with_exporters [] views))) none
+  are_shared_names_by_rules Strict visited reached candidate viewed =
+      ap (map (shared_name_view_of_resolved root)) (all_shared name_of_view is_along_stars candidate)
+      ∙ (shared_alike (export_candidates_along_chains (explicit_exports_of graph) visited) candidate viewed
+      ∙ ap (λ ms. map (shared_name_view_of_entry graph start) (shared_names_among entry_name entry_chained
+      (export_candidates_along_chains (explicit_exports_of graph) ms)))
       (reached_are_one
       graph start visited reached))
 
 -- their numbers are those of stored modules
-pub shared_numbered : (root : RootView) (candidate : List ResolvedExportView) → AreExportsStored root candidate
-    → AreExportersStored root (shared_groups is_along_stars (with_exporters [] candidate))
+pub shared_numbered : (root : RootView) (candidate : List ResolvedExportView) → AreModulesOfExportsStored root candidate
+    → AreExporterModulesStored root (groups_with_shared_exporters is_along_stars (with_exporters [] candidate))
 shared_numbered root candidate are =
-    subst (λ groups. AreExportersStored root (shared_groups is_along_stars groups)) (sym (all_together name_of_view [] candidate))
-    together_in
+    subst (AreExporterModulesStored root) (sym (all_shared name_of_view is_along_stars candidate)) together_in
   where
-    one : (view : ResolvedExportView) → Contains candidate view → IsExportStored root view
-    one view has = subst (IsExportStored root) has.2 (are has.0 view has.1)
+    one : (view : ResolvedExportView) → Contains candidate view → AreModulesOfExportStored root view
+    one view has = subst (AreModulesOfExportStored root) has.2 (are has.0 view has.1)
 
-    in_group : (group : NameWithExporters ResolvedExportView) → Contains (shared_groups is_along_stars (grouped_by_name name_of_view candidate)) group
-        → AreExportsStored root group.exporters
+    in_group : (group : NameWithExporters ResolvedExportView) → Contains (groups_with_shared_exporters is_along_stars (grouped_by_name name_of_view candidate))
+        group
+        → AreModulesOfExportsStored root group.exporters
     in_group group has j e j_in =
-        let retained = filtered_from (λ (g : NameWithExporters ResolvedExportView). is_shared_group is_along_stars g.exporters)
+        let retained = filtered_from (λ (g : NameWithExporters ResolvedExportView). has_shared_exporters is_along_stars g.exporters)
         (grouped_by_name name_of_view candidate) group has in
         let view : ResolvedExportView = get_or group.exporters j e in
         let among : Contains (filter (λ (y : ResolvedExportView). bytes_eq group.name y.name) candidate) view =
@@ -111,6 +115,6 @@ shared_numbered root candidate are =
         (exporters_are name_of_view candidate group retained.0) (Contains-get_or group.exporters j e j_in) in
         one view (filtered_from (λ (y : ResolvedExportView). bytes_eq group.name y.name) candidate view among).0
 
-    together_in : AreExportersStored root (shared_groups is_along_stars (grouped_by_name name_of_view candidate))
-    together_in i d i_in = in_group (get_or (shared_groups is_along_stars (grouped_by_name name_of_view candidate)) i d)
-        (Contains-get_or (shared_groups is_along_stars (grouped_by_name name_of_view candidate)) i d i_in)
+    together_in : AreExporterModulesStored root (groups_with_shared_exporters is_along_stars (grouped_by_name name_of_view candidate))
+    together_in i d i_in = in_group (get_or (groups_with_shared_exporters is_along_stars (grouped_by_name name_of_view candidate)) i d)
+        (Contains-get_or (groups_with_shared_exporters is_along_stars (grouped_by_name name_of_view candidate)) i d i_in)

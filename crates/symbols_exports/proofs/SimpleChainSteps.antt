@@ -88,7 +88,7 @@ goes_once statements before here (k ∷ chain) end goes (suc i) (suc j) i_in j_i
 
 pub goes_simple : (statements : StarTargets) (start chain end : List ℕ) → Goes statements [] start chain end → IsSimpleChain statements start chain end
 goes_simple statements start chain end goes =
-    record { ends_at = goes_ends statements [] start chain end goes; once = goes_once statements [] start chain end goes }
+    record { ends_at = goes_ends statements [] start chain end goes; has_no_duplicates = goes_once statements [] start chain end goes }
 
 -- ---- and each simple chain is such a one
 
@@ -125,7 +125,7 @@ goes_from statements before here (k ∷ chain) end ends_at apart once = by (star
     by (Some v) at later rest = (apart 0 here (omega arith) refl, (v, at, rest v at later))
 
 pub simple_goes : (statements : StarTargets) (start chain end : List ℕ) → IsSimpleChain statements start chain end → Goes statements [] start chain end
-simple_goes statements start chain end simple = goes_from statements [] start chain end simple.ends_at (λ j w within at. refl) simple.once
+simple_goes statements start chain end simple = goes_from statements [] start chain end simple.ends_at (λ j w within at. refl) simple.has_no_duplicates
 
 -- ---- it has no more statements than the graph has modules
 

@@ -10,7 +10,7 @@ use Rattle.symbols_exports.specs.declared.name_filter.NameFilter.{NameFilter}
 use Rattle.symbols_exports.specs.Chains.{chain_end_module}
 use Rattle.symbols_exports.specs.StarStatements.{star_targets_of}
 use Rattle.symbols_exports.specs.inner.Collecting.{CollectedView, frame_view}
-use Rattle.symbols_exports.specs.ExportViews.{chain_statements, star_statement_by_specifier, AreStatementsStored}
+use Rattle.symbols_exports.specs.ExportViews.{chain_statements, star_statement_by_specifier, AreReferrersOfStarsStored}
 use Rattle.symbols_exports.specs.inner.NameFilter.{is_name_search_done}
 use Rattle.symbols_exports.proofs.ChainEnds.{ends_back, cursor_is_there}
 use Rattle.symbols_exports.proofs.UnresolvedSoFar.{IsThere, IsUnresolvedAt}
@@ -19,13 +19,13 @@ use Rattle.symbols_exports.proofs.StoringWalk.{IsWalking, all_few, fork_in, fork
 use Rattle.symbols_exports.proofs.WalkStates.{Fork, chain_of, IsAt, at_back, retained_at_back}
 
 -- if the numbers of a longer list are those of stored modules, so are those of its front
-numbered_front : (root : RootView) (statements : List (ModuleId × List ℕ)) (last : ModuleId × List ℕ) → AreStatementsStored root (statements ++ last ∷ [])
-    → AreStatementsStored root statements
+numbered_front : (root : RootView) (statements : List (ModuleId × List ℕ)) (last : ModuleId × List ℕ) → AreReferrersOfStarsStored root (statements ++ last ∷ [])
+    → AreReferrersOfStarsStored root statements
 numbered_front root statements last are i d within =
     let longer : i < length (statements ++ last ∷ []) = omega (arith, within, length_push statements last) in
     rw (get_or_append_left statements (last ∷ []) d i within) at (are i d longer)
 
-numbered_last : (root : RootView) (statements : List (ModuleId × List ℕ)) (last : ModuleId × List ℕ) → AreStatementsStored root (statements ++ last ∷ [])
+numbered_last : (root : RootView) (statements : List (ModuleId × List ℕ)) (last : ModuleId × List ℕ) → AreReferrersOfStarsStored root (statements ++ last ∷ [])
     → last.0.0 < length root.stored
 numbered_last root statements last are =
     let there : length statements < length (statements ++ last ∷ []) = omega (arith, length_push statements last) in
@@ -52,7 +52,7 @@ module _ {name_filter : NameFilter} {old : RootView} {start : ModuleId} {root : 
   chain_was : chain_of (forks_in root stack ++ fork_in root frame ∷ []) ≡ chain_of (forks_in root stack) ++ frame.position ∷ []
   chain_was = map-append (λ (fork : Fork). fork.position) (forks_in root stack) (fork_in root frame ∷ [])
 
-  numbered : AreStatementsStored root (map frame_view stack ++ frame_view frame ∷ [])
+  numbered : AreReferrersOfStarsStored root (map frame_view stack ++ frame_view frame ∷ [])
   numbered = rw (map-append frame_view stack (frame ∷ [])) at walk.inside.stack_in
 
   trace_back : chain_statements old.graph (specifier_in old start) (chain_of (forks_in root stack)) ≡ map (star_statement_by_specifier root)

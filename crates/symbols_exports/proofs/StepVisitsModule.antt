@@ -17,8 +17,8 @@ use Rattle.symbols_exports.specs.Exports.{ExportEntry}
 use Rattle.symbols_exports.specs.StarStatements.{star_specifiers, resolve_specifier, star_targets_of, explicit_exports_of}
 use Rattle.symbols_exports.specs.CollectedNames.{ResolvedExportView}
 use Rattle.symbols_exports.specs.inner.Collecting.{CollectedView, frame_view, with_names, with_exporters}
-use Rattle.symbols_exports.specs.ExportViews.{star_statement_view, chain_statements, entry_export_view, star_statement_by_specifier, export_by_specifier}
-use Rattle.symbols_exports.specs.ExportViews.{AreStatementsStored, AreExportsStored}
+use Rattle.symbols_exports.specs.ExportViews.{star_statement_view, chain_statements, export_view_of_entry, star_statement_by_specifier, export_by_specifier}
+use Rattle.symbols_exports.specs.ExportViews.{AreReferrersOfStarsStored, AreModulesOfExportsStored}
 use Rattle.symbols_exports.specs.inner.NameFilter.{accepted_exports_of, is_name_search_done, collects_shared}
 use Rattle.symbols_exports.proofs.FirstOfEachName.{AreFound}
 use Rattle.symbols_exports.proofs.VisitedModules.{visited_modules}
@@ -35,7 +35,7 @@ use Rattle.symbols_exports.proofs.WalkStates.{Fork, chain_of, cursor_of, IsAt, a
 use Rattle.symbols_exports.proofs.SortedLists.{short_or_last}
 
 -- the frames are those of the same modules in a root that stores more
-forks_retained : (root : RootView) (needed : Option (List ℕ)) (stack : List Frame) → AreStatementsStored root (map frame_view stack)
+forks_retained : (root : RootView) (needed : Option (List ℕ)) (stack : List Frame) → AreReferrersOfStarsStored root (map frame_view stack)
     → forks_in (with_stored_module root needed) stack ≡ forks_in root stack
 forks_retained root needed [] are = refl
 forks_retained root needed (frame ∷ stack) are =
@@ -90,7 +90,7 @@ module _ {name_filter : NameFilter} {old : RootView} {start : ModuleId} {root : 
   pub chain_is : chain_of (forks_in root stack ++ fork_in root frame ∷ []) ≡ here_cursor
   chain_is = map-append (λ (fork : Fork). fork.position) (forks_in root stack) (fork_in root frame ∷ [])
 
-  numbered_too : AreStatementsStored more (map frame_view (stack ++ frame ∷ []))
+  numbered_too : AreReferrersOfStarsStored more (map frame_view (stack ++ frame ∷ []))
   numbered_too = rw (map-append frame_view stack (frame ∷ [])) (numbered_push more (map frame_view stack) (frame_view frame)
       (numbered_still root (Some v) (map frame_view stack) walk.inside.stack_in) (still_within root (Some v) frame.referrer.0 walk.inside.here_in))
 
@@ -127,7 +127,7 @@ module _ {name_filter : NameFilter} {old : RootView} {start : ModuleId} {root : 
   visited_are_too = map-append (λ (m : Visit). m.1) walk.visited ((here_cursor, v) ∷ []) ∙ (ap (λ xs. xs ++ v ∷ []) walk.visited_are ∙ sym ids_are)
 
   names_too : (more_found : List ExportEntry) × ((next : Visit) → AreFound (accepted_exports_of name_filter old.graph) visited_too next 0 more_found)
-      × (map (entry_export_view old.graph (specifier_in old start)) more_found ≡ map (export_by_specifier more)
+      × (map (export_view_of_entry old.graph (specifier_in old start)) more_found ≡ map (export_by_specifier more)
       (with_names (map frame_view (stack ++ frame ∷ [])) entered
       (accepted_exports_of name_filter old.graph v) collected.names))
       × (walk.found ≡ [] → (entry : ExportEntry) → Contains more_found entry → entry.chain ≡ here_cursor)
@@ -183,11 +183,11 @@ module _ {name_filter : NameFilter} {old : RootView} {start : ModuleId} {root : 
   abbrev pub candidates_here : List ResolvedExportView
   candidates_here = candidates_now keeps (map frame_view (stack ++ frame ∷ [])) entered (explicit_exports_of old.graph v)
 
-  candidate_in_too : AreExportsStored more (walk.candidate ++ candidates_here)
+  candidate_in_too : AreModulesOfExportsStored more (walk.candidate ++ candidates_here)
   candidate_in_too = names_both more walk.candidate candidates_here (names_still root (Some v) walk.candidate walk.candidate_in)
       (candidates_numbered more keeps (map frame_view (stack ++ frame ∷ [])) entered (explicit_exports_of old.graph v) numbered_too entered_in)
 
-  candidate_too : map (entry_export_view old.graph (specifier_in old start)) (candidates_visited keeps (explicit_exports_of old.graph) visited_too)
+  candidate_too : map (export_view_of_entry old.graph (specifier_in old start)) (candidates_visited keeps (explicit_exports_of old.graph) visited_too)
       ≡ map (export_by_specifier more) (walk.candidate ++ candidates_here)
   candidate_too = candidates_more old.graph more (specifier_in old start) (here_cursor, v) (map frame_view (stack ++ frame ∷ [])) entered trace_too
       (sym number_is) keeps (explicit_exports_of old.graph) walk.visited walk.candidate (walk.candidate_viewed
@@ -204,7 +204,8 @@ module _ {name_filter : NameFilter} {old : RootView} {start : ModuleId} {root : 
       record {
         first_statement = refl;
         found_here =
-            λ entry at. names_too.3 (nothing_viewed (entry_export_view old.graph (specifier_in old start)) (export_by_specifier root) walk.found collected.names
+            λ entry at. names_too.3 (nothing_viewed (export_view_of_entry old.graph (specifier_in old start))
+            (export_by_specifier root) walk.found collected.names
             walk.found_views new.0) entry at ∙ sym chain_is;
         at_start = λ default. absurd (true≢false (sym default ∙ new.1));
       }

@@ -23,7 +23,7 @@ use Rattle.symbols_exports.specs.declared.name_filter.NameFilter.{NameFilter}
 use Rattle.symbols_exports.specs.StarStatements.{star_specifiers, resolve_specifier, star_targets_of}
 use Rattle.symbols_exports.specs.inner.Collecting.{CollectedView, nothing_collected, is_same_module, frame_view}
 use Rattle.symbols_exports.specs.inner.NameFilter.{is_name_search_done}
-use Rattle.symbols_exports.proofs.CandidatesOfWalk.{with_module}
+use Rattle.symbols_exports.proofs.CandidatesOfWalk.{graph_with_put_module}
 use Rattle.symbols_exports.proofs.VisitedModules.{visited_modules, among_is_visited, among_stored, stored_already, still_once}
 use Rattle.symbols_exports.proofs.IdsInGrownRoots.{number_retained, number_among, same_under, still_within}
 use Rattle.symbols_exports.proofs.Cursors.{Visit}
@@ -37,7 +37,7 @@ use Rattle.symbols_exports.proofs.WalkTerminates.{work_left, next_less, entered_
 -- ---- the start
 
 pub begun : (name_filter : NameFilter) (old : RootView) (start : ModuleId) → start.0 < length old.stored
-    → IsWalking name_filter old start old start 0 [] (start ∷ []) (with_module name_filter old [] start nothing_collected) 0
+    → IsWalking name_filter old start old start 0 [] (start ∷ []) (graph_with_put_module name_filter old [] start nothing_collected) 0
 begun name_filter old start known = walking_first name_filter old start known (stored_already old (specifier_in old start)
     (list_any_at (bytes_eq (specifier_in old start)) old.stored start.0 [] known (nat_list_eq_equiv.refl (specifier_in old start))))
 
@@ -251,17 +251,18 @@ module _ {name_filter : NameFilter} {old : RootView} {start : ModuleId} {root : 
 
           pub looked_up_entered : is_name_search_done name_filter collected.names ≡ false
               → IsWalking name_filter old start after number 0 (stack ++ frame ∷ []) (ids
-              ++ number ∷ []) (with_module name_filter after trace_too number collected) (lookups + 1)
+              ++ number ∷ []) (graph_with_put_module name_filter after trace_too number collected) (lookups + 1)
           looked_up_entered goes =
               let more : RootView = with_stored_module root (Some led.0) in
               let called : specifier_in more number ≡ led.0 = get_or_from_slice_get more.stored number.0 led.0 [] number_under in
               let entered = walking_entered frame walk specifier_is few_here led.0 ends_at (not_visited frame walk specifier_is few_here led.0 fresh) number
               number_under goes in
-              let same : module_collected name_filter old.rules old.graph led.0 trace_too number collected ≡ with_module name_filter more trace_too number
+              let same : module_collected name_filter old.rules old.graph led.0 trace_too number collected
+              ≡ graph_with_put_module name_filter more trace_too number
               collected = (λ i. module_collected name_filter (sym (walking_rules walk) i) (sym (walking_graph walk) i) (sym called i) trace_too number
               collected) in
               subst (λ r. IsWalking name_filter old start r number 0 (stack ++ frame ∷ []) (ids ++ number ∷ [])
-              (with_module name_filter r trace_too number collected) (lookups + 1)) (sym more_is)
+              (graph_with_put_module name_filter r trace_too number collected) (lookups + 1)) (sym more_is)
               (subst (λ t. IsWalking name_filter old start more number 0 (stack ++ frame ∷ []) (ids ++ number ∷ []) t (lookups + 1)) same entered)
 
           pub looked_up_less : ((v : List ℕ) → resolve_specifier root.graph (specifier_in root here) specifier_text.now ≡ Some v → (m : ModuleView)

@@ -13,7 +13,7 @@ use Rattle.symbols_table.specs.Laws.{AreLawfulSymbols}
 use Rattle.symbols_table.specs.Modules.{SymbolTable, symbol_table_of_ref}
 use Rattle.symbols_table.specs.Symbols.{symbol_module_id, symbol_export_entries}
 use Rattle.symbols_table.specs.SymbolViews.{SymbolView, symbol_view, symbol_from_changes}
-use Rattle.symbols_root.specs.Roots.{RootView, IsStoredTable, maybe_specifier, specifier_in}
+use Rattle.symbols_root.specs.Roots.{RootView, IsTableOfStoredModule, maybe_specifier, specifier_in}
 use Rattle.symbols_root.specs.GraphModules.{changes_of_module, symbol_in_module}
 use Rattle.symbols_root.specs.laws.StoredTables.{stored_table_has_module_symbols}
 use Rattle.symbols_exports.specs.declared.export_chain.ResolvedExport.{ResolvedExport}
@@ -21,7 +21,8 @@ use Rattle.symbols_exports.specs.ExportSymbols.{symbol_of_export}
 use Rattle.symbols_exports.specs.StarStatements.{explicit_exports_of}
 
 -- the exports of a symbol
-pub stored_exports : (root : RootView) (module_id : ModuleId) (table : SymbolTable) (s : SymbolId) (symbol : Symbol) → IsStoredTable root module_id table
+pub stored_exports : (root : RootView) (module_id : ModuleId) (table : SymbolTable) (s : SymbolId) (symbol : Symbol)
+    → IsTableOfStoredModule root module_id table
     → slice_get table.symbols s.0 ≡ Some symbol → symbol_export_entries symbol ≡ exports_after (changes_of_module root.graph (specifier_in root module_id)) s
 stored_exports root module_id table s symbol stored at =
     let changes = changes_of_module root.graph (specifier_in root module_id) in
@@ -35,9 +36,10 @@ stored_exports root module_id table s symbol stored at =
         (same_Some (symbol_view symbol) (symbol_from_changes (changes_of_module root.graph (specifier_in root module_id)) s parent) same)
 
 -- the local exports of the module are those of its symbol 0
-pub stored_names : (root : RootView) (module_id : ModuleId) (table : SymbolTable) (symbol : Symbol) → IsStoredTable root module_id table
+pub stored_table_has_module_bindings : (root : RootView) (module_id : ModuleId) (table : SymbolTable) (symbol : Symbol)
+    → IsTableOfStoredModule root module_id table
     → slice_get table.symbols 0 ≡ Some symbol → symbol_export_entries symbol ≡ explicit_exports_of root.graph (specifier_in root module_id)
-stored_names root module_id table symbol stored first = stored_exports root module_id table (record { 0 = 0 }) symbol stored first
+stored_table_has_module_bindings root module_id table symbol stored first = stored_exports root module_id table (record { 0 = 0 }) symbol stored first
 
 -- and their symbols are among its symbols, by the laws of symbol tables
 lawful_in : (info : ModuleInfoRef) → AreLawfulSymbols (symbol_table_of_ref info).module_id (symbol_table_of_ref info).symbols
@@ -46,10 +48,10 @@ lawful_in (ModuleInfoRef.Esm info) = info.now.lawful
 
 -- a borrowed symbol has the number of this module
 pub symbol_of_module : (root : RootView) (module_id : ModuleId) (info : ModuleInfoRef) (s : SymbolId) (found : Option (Bor Symbol))
-    → IsStoredTable root module_id (symbol_table_of_ref info) → option_copied found ≡ slice_get (symbol_table_of_ref info).symbols s.0
+    → IsTableOfStoredModule root module_id (symbol_table_of_ref info) → option_copied found ≡ slice_get (symbol_table_of_ref info).symbols s.0
     → IfSome found (λ (symbol : Bor Symbol). symbol_module_id symbol.now ≡ module_id)
 symbol_of_module root module_id info s None stored at = tt
-symbol_of_module root module_id info s (Some symbol) stored at = (lawful_in info s symbol.now (sym at)).of_module ∙ stored.2.analyzed.number
+symbol_of_module root module_id info s (Some symbol) stored at = (lawful_in info s symbol.now (sym at)).of_module ∙ stored.2.is_analyzed_table.number
 
 -- there is no symbol if no module of the number is stored
 pub no_symbol_of : (root : RootView) (export : ResolvedExport) → (export.«module».0 < length root.stored → ⊥) → None ≡ symbol_of_export root export
@@ -72,7 +74,7 @@ not_nothing symbols n within none = elim (slice_get_cases symbols n).1 [
 ]
 
 explicit_within : (root : RootView) (module_id : ModuleId) (info : ModuleInfoRef) (name : List ℕ) (s : SymbolId)
-    → IsStoredTable root module_id (symbol_table_of_ref info) → Contains (explicit_exports_of root.graph (specifier_in root module_id)) (name, s)
+    → IsTableOfStoredModule root module_id (symbol_table_of_ref info) → Contains (explicit_exports_of root.graph (specifier_in root module_id)) (name, s)
     → s.0 < length (symbol_table_of_ref info).symbols
 explicit_within root module_id info name s stored explicit =
     by (slice_get (symbol_table_of_ref info).symbols 0) refl
@@ -80,14 +82,14 @@ explicit_within root module_id info name s stored explicit =
     by : (first : Option Symbol) → slice_get (symbol_table_of_ref info).symbols 0 ≡ first → s.0 < length (symbol_table_of_ref info).symbols
     by None none = absurd (not_nothing (symbol_table_of_ref info).symbols 0 (has_module_in info) none)
     by (Some symbol) first =
-        let names = stored_names root module_id (symbol_table_of_ref info) symbol stored first in
+        let names = stored_table_has_module_bindings root module_id (symbol_table_of_ref info) symbol stored first in
         let has : Contains (symbol_export_entries symbol) (name, s) = subst (λ (exported : List (List ℕ × SymbolId)). Contains exported (name, s)) (sym names)
         explicit in
         let within = (lawful_in info (record { 0 = 0 }) symbol first).exports has.0 (name, s) has.1 in
         subst (λ (exported : List ℕ × SymbolId). exported.1.0 < length (symbol_table_of_ref info).symbols) has.2 within
 
 pub explicit_is_there : (root : RootView) (module_id : ModuleId) (info : ModuleInfoRef) (name : List ℕ) (s : SymbolId)
-    → IsStoredTable root module_id (symbol_table_of_ref info) → Contains (explicit_exports_of root.graph (specifier_in root module_id)) (name, s)
+    → IsTableOfStoredModule root module_id (symbol_table_of_ref info) → Contains (explicit_exports_of root.graph (specifier_in root module_id)) (name, s)
     → slice_get (symbol_table_of_ref info).symbols s.0 ≡ None → ⊥
 explicit_is_there root module_id info name s stored explicit none =
     not_nothing (symbol_table_of_ref info).symbols s.0 (explicit_within root module_id info name s stored explicit) none

@@ -17,13 +17,13 @@ use Rattle.symbols_exports.specs.Exports.{ExportEntry, StarPosition}
 use Rattle.symbols_exports.specs.StarStatements.{star_specifiers, resolve_specifier, star_targets_of, explicit_exports_of}
 use Rattle.symbols_exports.specs.CollectedNames.{ResolvedExportView}
 use Rattle.symbols_exports.specs.inner.Collecting.{CollectedView, nothing_collected, frame_view, with_names, with_exporters}
-use Rattle.symbols_exports.specs.ExportViews.{star_statement_view, chain_statements, entry_export_view, star_statement_by_specifier, export_by_specifier}
-use Rattle.symbols_exports.specs.ExportViews.{AreStatementsStored, AreExportsStored}
+use Rattle.symbols_exports.specs.ExportViews.{star_statement_view, chain_statements, export_view_of_entry, star_statement_by_specifier, export_by_specifier}
+use Rattle.symbols_exports.specs.ExportViews.{AreReferrersOfStarsStored, AreModulesOfExportsStored}
 use Rattle.symbols_exports.specs.inner.NameFilter.{accepted_exports_of, is_name_search_done, is_default, collects_shared}
 use Rattle.symbols_exports.proofs.Cursors.{Visit, start_alone}
 use Rattle.symbols_exports.proofs.FirstOfEachName.{AreFound, nothing_found, module_done, found_here}
 use Rattle.symbols_exports.proofs.UnresolvedSoFar.{IsThere, IsUnresolvedAt, AreSelected, retained_none}
-use Rattle.symbols_exports.proofs.CandidatesOfWalk.{candidates_visited, candidates_more, candidates_numbered, candidates_for, with_module}
+use Rattle.symbols_exports.proofs.CandidatesOfWalk.{candidates_visited, candidates_more, candidates_numbered, candidates_for, graph_with_put_module}
 use Rattle.symbols_exports.proofs.CollectedInOrder.{all_collected}
 use Rattle.symbols_exports.proofs.ExportViewLemmas.{none_numbered, no_names_numbered, collected_numbered}
 use Rattle.symbols_exports.proofs.WalkStates.{Fork, chain_of, cursor_of, IsAt, at_first}
@@ -37,10 +37,10 @@ forks_in root stack = map (fork_in root) stack
 -- the walk's numbers are those of stored modules
 pub record AreStored (root : RootView) (here : ModuleId) (stack : List Frame) (ids : List ModuleId) (collected : CollectedView) : Type 0 where
   pub here_in : here.0 < length root.stored
-  pub stack_in : AreStatementsStored root (map frame_view stack)
+  pub stack_in : AreReferrersOfStarsStored root (map frame_view stack)
   pub ids_in : (i : ℕ) (d : ModuleId) → i < length ids → (get_or ids i d).0 < length root.stored
-  pub names_in : AreExportsStored root collected.names
-  pub unresolved_in : AreStatementsStored root collected.unresolved
+  pub names_in : AreModulesOfExportsStored root collected.names
+  pub unresolved_in : AreReferrersOfStarsStored root collected.unresolved
 
 -- the number of statements after that of a fork in its module
 abbrev pub left_at : StarTargets → Fork → ℕ
@@ -72,14 +72,14 @@ pub record IsWalking (name_filter : NameFilter) (old : RootView) (start : Module
       (map frame_view stack)
   pub found : List ExportEntry
   pub found_are : (now : Visit) → AreFound (accepted_exports_of name_filter old.graph) visited now 0 found
-  pub found_views : map (entry_export_view old.graph (specifier_in old start)) found ≡ map (export_by_specifier root) collected.names
+  pub found_views : map (export_view_of_entry old.graph (specifier_in old start)) found ≡ map (export_by_specifier root) collected.names
   pub unresolved : List StarPosition
   pub missed_are : AreSelected (IsUnresolvedAt (star_targets_of old.graph)) (cursor_of (forks_in root stack) next) visited unresolved
   pub missed_viewed : map (star_statement_view old.graph) unresolved ≡ map (star_statement_by_specifier root) collected.unresolved
   pub candidate : List ResolvedExportView
   pub candidate_are : collected.candidates ≡ with_exporters [] candidate
-  pub candidate_in : AreExportsStored root candidate
-  pub candidate_viewed : map (entry_export_view old.graph (specifier_in old start)) (candidates_visited (collects_shared name_filter old.rules)
+  pub candidate_in : AreModulesOfExportsStored root candidate
+  pub candidate_viewed : map (export_view_of_entry old.graph (specifier_in old start)) (candidates_visited (collects_shared name_filter old.rules)
       (explicit_exports_of old.graph) visited) ≡ map (export_by_specifier root) candidate
   pub following : List StarPosition
   pub after_are : AreSelected (IsThere (star_targets_of old.graph)) (cursor_of (forks_in root stack) next) visited following
@@ -141,9 +141,9 @@ pub names_collected : (name_filter : NameFilter) (old : RootView) (root : RootVi
     (here : ModuleId) (names : List ResolvedExportView) (found : List ExportEntry) → ((c u : List ℕ) → Contains visited (c, u) → IsChainBefore c now.0)
     → chain_statements old.graph start now.0 ≡ map (star_statement_by_specifier root) (map frame_view stack) → now.1 ≡ specifier_in root here
     → AreFound (accepted_exports_of name_filter old.graph) visited now 0 found
-    → map (entry_export_view old.graph start) found ≡ map (export_by_specifier root) names
+    → map (export_view_of_entry old.graph start) found ≡ map (export_by_specifier root) names
     → (more : List ExportEntry) × ((next : Visit) → AreFound (accepted_exports_of name_filter old.graph) (visited ++ now ∷ []) next 0 more)
-    × (map (entry_export_view old.graph start) more ≡ map (export_by_specifier root) (with_names (map frame_view stack) here
+    × (map (export_view_of_entry old.graph start) more ≡ map (export_by_specifier root) (with_names (map frame_view stack) here
     (accepted_exports_of name_filter old.graph now.1) names)) × (found ≡ [] → (entry : ExportEntry) → Contains more entry → entry.chain ≡ now.0)
 names_collected name_filter old root start visited now stack here names found following re_exports at_here are viewed =
     let exported = accepted_exports_of name_filter old.graph now.1 in
@@ -159,7 +159,7 @@ names_collected name_filter old root start visited now stack here names found fo
 -- before the first module
 pub walking_first : (name_filter : NameFilter) (old : RootView) (start : ModuleId) → start.0 < length old.stored
     → with_stored_module old (Some (specifier_in old start)) ≡ old
-    → IsWalking name_filter old start old start 0 [] (start ∷ []) (with_module name_filter old [] start nothing_collected) 0
+    → IsWalking name_filter old start old start 0 [] (start ∷ []) (graph_with_put_module name_filter old [] start nothing_collected) 0
 walking_first name_filter old start known is_stored =
     let s0 = specifier_in old start in
     let first = names_collected name_filter old old s0 [] ([], s0) [] start [] [] (λ c u cu. absurd (omega (arith, cu.1))) refl refl
@@ -202,7 +202,8 @@ walking_first name_filter old start known is_stored =
     start_in zero d within = known
     start_in (suc i) d within = absurd (omega (arith, within))
 
-    none_candidate : (keeps : Bool) → map (entry_export_view old.graph (specifier_in old start)) (candidates_visited keeps (explicit_exports_of old.graph) [])
+    none_candidate : (keeps : Bool) → map (export_view_of_entry old.graph (specifier_in old start))
+        (candidates_visited keeps (explicit_exports_of old.graph) [])
         ≡ map (export_by_specifier old) []
     none_candidate true = refl
     none_candidate false = refl

@@ -9,10 +9,11 @@ use Rattle.std.proofs.lemmas.List.{take_all, take_at, length-append}
 use Rattle.std.proofs.lemmas.Option.{none-some, same_Some}
 use Rattle.std.proofs.lemmas.Slice.Eq.{bytes_eq-Decides}
 use Rattle.symbols_ast.specs.Graph.{GraphView}
-use Rattle.symbols_exports.specs.Chains.{chain_end_module, IsSimpleChain, IsChainBefore, IsChainUpTo, IsLeastChain, IsReachedByStars}
+use Rattle.symbols_exports.specs.Chains.{chain_end_module, IsSimpleChain, IsChainBefore, IsChainBeforeOrEqual, IsLeastChain, IsReachedByStars}
 use Rattle.symbols_exports.specs.Exports.{StarPosition, IsUnresolvedStar, IsStarStatementBefore, AreUnresolvedStars}
 use Rattle.symbols_exports.specs.StarStatements.{star_targets_of}
-use Rattle.symbols_exports.specs.Traces.{StarTrace, traces_of, first_distinct_by, is_same_position, is_same_end, unresolved_star_of_trace, unresolved_stars_of}
+use Rattle.symbols_exports.specs.Traces.{StarWalkVisit, star_walk_visits_of, first_distinct_by, is_same_optional_index, is_same_visit_end}
+use Rattle.symbols_exports.specs.Traces.{unresolved_star_at_visit, unresolved_stars_of}
 use Rattle.symbols_exports.proofs.TraceLists.{arrives, arrival_there, ends_dead, dead_end_there}
 use Rattle.symbols_exports.proofs.ChainOrder.{never_before_itself, before_then_before, up_to_then_before, with_one_more}
 use Rattle.symbols_exports.proofs.SortedLists.{IsSorted, first_or_later, contains_first, contains_later, contains_nothing, sorted_pairs}
@@ -24,24 +25,24 @@ use Rattle.symbols_exports.proofs.TracesAreSimpleChains.{ComesBefore, traces_sor
 abbrev pub TraceEnd : Type 0
 TraceEnd = List ℕ × Option ℕ
 
-abbrev pub end_of : StarTrace → TraceEnd
+abbrev pub end_of : StarWalkVisit → TraceEnd
 end_of trace = (trace.end, trace.unresolved_at)
 
-positions : (x y : Option ℕ) → Decides (is_same_position x y) (x ≡ y)
+positions : (x y : Option ℕ) → Decides (is_same_optional_index x y) (x ≡ y)
 positions None None = (λ is. refl, λ same. refl)
 positions None (Some k) = (λ is. absurd (true≢false (sym is)), λ same. absurd (none-some k same))
 positions (Some j) None = (λ is. absurd (true≢false (sym is)), λ same. absurd (none-some j (sym same)))
 positions (Some j) (Some k) = (λ is. ap (λ n. Some n) (eqb-true j k is), λ same. eq-eqb j k (same_Some j k same))
 
-pub ends_here : (x y : StarTrace) → Decides (is_same_end x y) (◌≡◌ {A = TraceEnd} (end_of x) (end_of y))
+pub ends_here : (x y : StarWalkVisit) → Decides (is_same_visit_end x y) (◌≡◌ {A = TraceEnd} (end_of x) (end_of y))
 ends_here x y = (
-  λ is. to (bytes_eq x.end y.end) (is_same_position x.unresolved_at y.unresolved_at) refl refl is,
+  λ is. to (bytes_eq x.end y.end) (is_same_optional_index x.unresolved_at y.unresolved_at) refl refl is,
   λ same. and_from (bytes_eq x.end y.end)
-      (is_same_position x.unresolved_at y.unresolved_at) ((bytes_eq-Decides x.end y.end).1 (ap (λ (s : TraceEnd). s.0) same))
+      (is_same_optional_index x.unresolved_at y.unresolved_at) ((bytes_eq-Decides x.end y.end).1 (ap (λ (s : TraceEnd). s.0) same))
       ((positions x.unresolved_at y.unresolved_at).1 (ap (λ (s : TraceEnd). s.1) same)),
 )
   where
-    to : (b c : Bool) → bytes_eq x.end y.end ≡ b → is_same_position x.unresolved_at y.unresolved_at ≡ c → (b && c) ≡ true
+    to : (b c : Bool) → bytes_eq x.end y.end ≡ b → is_same_optional_index x.unresolved_at y.unresolved_at ≡ c → (b && c) ≡ true
         → ◌≡◌ {A = TraceEnd} (end_of x) (end_of y)
     to true true ends cursors is = (λ i. ((bytes_eq-Decides x.end y.end).0 ends i, (positions x.unresolved_at y.unresolved_at).0 cursors i))
     to true false ends cursors is = absurd (true≢false (sym is))
@@ -49,77 +50,78 @@ ends_here x y = (
 
 -- ---- the statements of traces
 
-statements_from : (traces : List StarTrace) (at : StarPosition) → Contains (filter_map unresolved_star_of_trace traces) at
+statements_from : (traces : List StarWalkVisit) (at : StarPosition) → Contains (filter_map unresolved_star_at_visit traces) at
     → (chain : List ℕ) × Contains traces (record { chain = chain; end = at.0; unresolved_at = Some at.1 })
 statements_from [] at has = absurd (contains_nothing at has)
 statements_from (w ∷ traces) at has = by w.unresolved_at refl has (statements_from traces at)
   where
     by : (unresolved_at : Option ℕ) → w.unresolved_at ≡ unresolved_at
-        → Contains (filter_map unresolved_star_of_trace (record { chain = w.chain; end = w.end; unresolved_at = unresolved_at } ∷ traces)) at
-        → (Contains (filter_map unresolved_star_of_trace traces) at → (chain : List ℕ)
+        → Contains (filter_map unresolved_star_at_visit (record { chain = w.chain; end = w.end; unresolved_at = unresolved_at } ∷ traces)) at
+        → (Contains (filter_map unresolved_star_at_visit traces) at → (chain : List ℕ)
         × Contains traces (record { chain = chain; end = at.0; unresolved_at = Some at.1 }))
         → (chain : List ℕ) × Contains (w ∷ traces) (record { chain = chain; end = at.0; unresolved_at = Some at.1 })
     by None is later rest = let found = rest later in
         (found.0, contains_later w traces (record { chain = found.0; end = at.0; unresolved_at = Some at.1 }) found.1)
-    by (Some k) is some rest = elim (first_or_later (w.end, k) (filter_map unresolved_star_of_trace traces) at some) [
+    by (Some k) is some rest = elim (first_or_later (w.end, k) (filter_map unresolved_star_at_visit traces) at some) [
       | inl same ↦
           (w.chain, (0, omega arith, λ i. record { chain = w.chain; end = (same i).0; unresolved_at = (is ∙ ap (λ (s : StarPosition). Some s.1) same) i }))
       | inr later ↦ let found = rest later in (found.0, contains_later w traces (record { chain = found.0; end = at.0; unresolved_at = Some at.1 }) found.1)
     ]
 
-statement_there : (traces : List StarTrace) (chain end : List ℕ) (k : ℕ) → Contains traces (record { chain = chain; end = end; unresolved_at = Some k })
-    → Contains (filter_map unresolved_star_of_trace traces) (end, k)
+statement_there : (traces : List StarWalkVisit) (chain end : List ℕ) (k : ℕ) → Contains traces (record { chain = chain; end = end; unresolved_at = Some k })
+    → Contains (filter_map unresolved_star_at_visit traces) (end, k)
 statement_there [] chain end k has = absurd (contains_nothing (record { chain = chain; end = end; unresolved_at = Some k }) has)
 statement_there (w ∷ traces) chain end k has =
     by (first_or_later w traces (record { chain = chain; end = end; unresolved_at = Some k }) has) (statement_there traces chain end k)
   where
-    following : (unresolved_at : Option ℕ) → Contains (filter_map unresolved_star_of_trace traces) (end, k)
-        → Contains (filter_map unresolved_star_of_trace (record { chain = w.chain; end = w.end; unresolved_at = unresolved_at } ∷ traces)) (end, k)
+    following : (unresolved_at : Option ℕ) → Contains (filter_map unresolved_star_at_visit traces) (end, k)
+        → Contains (filter_map unresolved_star_at_visit (record { chain = w.chain; end = w.end; unresolved_at = unresolved_at } ∷ traces)) (end, k)
     following None later = later
-    following (Some j) later = contains_later (w.end, j) (filter_map unresolved_star_of_trace traces) (end, k) later
+    following (Some j) later = contains_later (w.end, j) (filter_map unresolved_star_at_visit traces) (end, k) later
 
     by : (w ≡ record { chain = chain; end = end; unresolved_at = Some k }) ⊎ Contains traces (record { chain = chain; end = end; unresolved_at = Some k })
-        → (Contains traces (record { chain = chain; end = end; unresolved_at = Some k }) → Contains (filter_map unresolved_star_of_trace traces) (end, k))
-        → Contains (filter_map unresolved_star_of_trace (w ∷ traces)) (end, k)
-    by (inl same) rest = subst (λ (x : StarTrace). Contains (filter_map unresolved_star_of_trace (x ∷ traces)) (end, k)) (sym same)
-        (contains_first (end, k) (filter_map unresolved_star_of_trace traces))
+        → (Contains traces (record { chain = chain; end = end; unresolved_at = Some k }) → Contains (filter_map unresolved_star_at_visit traces) (end, k))
+        → Contains (filter_map unresolved_star_at_visit (w ∷ traces)) (end, k)
+    by (inl same) rest = subst (λ (x : StarWalkVisit). Contains (filter_map unresolved_star_at_visit (x ∷ traces)) (end, k)) (sym same)
+        (contains_first (end, k) (filter_map unresolved_star_at_visit traces))
     by (inr later) rest = following w.unresolved_at (rest later)
 
-statements_sorted : (R : StarTrace → StarTrace → Type 0) (S : StarPosition → StarPosition → Type 0) (traces : List StarTrace) → ((c d u v : List ℕ) (j k : ℕ)
+statements_sorted : (R : StarWalkVisit → StarWalkVisit → Type 0) (S : StarPosition → StarPosition → Type 0) (traces : List StarWalkVisit) →
+    ((c d u v : List ℕ) (j k : ℕ)
     → Contains traces (record { chain = c; end = u; unresolved_at = Some j }) → Contains traces (record { chain = d; end = v; unresolved_at = Some k })
     → R (record { chain = c; end = u; unresolved_at = Some j }) (record { chain = d; end = v; unresolved_at = Some k }) → S (u, j) (v, k)) → IsSorted R traces
-    → IsSorted S (filter_map unresolved_star_of_trace traces)
+    → IsSorted S (filter_map unresolved_star_at_visit traces)
 statements_sorted R S [] keeps sorted = tt
 statements_sorted R S (w ∷ traces) keeps sorted = by w.unresolved_at refl (statements_sorted R S traces (λ c d u v j k has_x has_y. keeps c d u v j k
     (contains_later w traces (record { chain = c; end = u; unresolved_at = Some j }) has_x)
     (contains_later w traces (record { chain = d; end = v; unresolved_at = Some k }) has_y)) sorted.1)
   where
-    by : (unresolved_at : Option ℕ) → w.unresolved_at ≡ unresolved_at → IsSorted S (filter_map unresolved_star_of_trace traces)
-        → IsSorted S (filter_map unresolved_star_of_trace (record { chain = w.chain; end = w.end; unresolved_at = unresolved_at } ∷ traces))
+    by : (unresolved_at : Option ℕ) → w.unresolved_at ≡ unresolved_at → IsSorted S (filter_map unresolved_star_at_visit traces)
+        → IsSorted S (filter_map unresolved_star_at_visit (record { chain = w.chain; end = w.end; unresolved_at = unresolved_at } ∷ traces))
     by None is rest = rest
     by (Some k) is rest = (first, rest)
       where
         this : w ≡ record { chain = w.chain; end = w.end; unresolved_at = Some k }
         this = λ i. record { chain = w.chain; end = w.end; unresolved_at = is i }
 
-        first : (at : StarPosition) → Contains (filter_map unresolved_star_of_trace traces) at → S (w.end, k) at
+        first : (at : StarPosition) → Contains (filter_map unresolved_star_at_visit traces) at → S (w.end, k) at
         first at has =
             let later = statements_from traces at has in
-            let other : StarTrace = record { chain = later.0; end = at.0; unresolved_at = Some at.1 } in
+            let other : StarWalkVisit = record { chain = later.0; end = at.0; unresolved_at = Some at.1 } in
             keeps w.chain later.0 w.end at.0 k at.1 (subst (Contains (w ∷ traces)) this (contains_first w traces)) (contains_later w traces other later.1)
-            (subst (λ (x : StarTrace). R x other) this (sorted.0 other later.1))
+            (subst (λ (x : StarWalkVisit). R x other) this (sorted.0 other later.1))
 
 -- ---- the unresolved statements
 
 module _ (graph : GraphView) (start : List ℕ) where
-  abbrev pub firsts : List StarTrace
-  firsts = first_distinct_by is_same_end (traces_of graph start)
+  abbrev pub firsts : List StarWalkVisit
+  firsts = first_distinct_by is_same_visit_end (star_walk_visits_of graph start)
 
-  pub all_sorted : IsSorted ComesBefore (traces_of graph start)
+  pub all_sorted : IsSorted ComesBefore (star_walk_visits_of graph start)
   all_sorted = traces_sorted (star_targets_of graph) (length graph.modules + 1) [] start
 
-  pub was_trace : (w : StarTrace) → Contains firsts w → Contains (traces_of graph start) w
-  was_trace w has = first_is_one is_same_end end_of ends_here (traces_of graph start) w has
+  pub was_trace : (w : StarWalkVisit) → Contains firsts w → Contains (star_walk_visits_of graph start) w
+  was_trace w has = first_is_one is_same_visit_end end_of ends_here (star_walk_visits_of graph start) w has
 
   is_unresolved : (at : StarPosition) → Contains (unresolved_stars_of graph start) at → IsUnresolvedStar (star_targets_of graph) start at
   is_unresolved at has =
@@ -128,19 +130,19 @@ module _ (graph : GraphView) (start : List ℕ) where
       ((dead.0, dead.2), dead.3, dead.4)
 
   -- the first trace to an end isn't after any trace to it
-  pub first_trace : (chain end : List ℕ) (unresolved_at : Option ℕ) → Contains (traces_of graph start) (record {
+  pub first_trace : (chain end : List ℕ) (unresolved_at : Option ℕ) → Contains (star_walk_visits_of graph start) (record {
     chain = chain;
     end = end;
     unresolved_at = unresolved_at;
-  }) → (f : StarTrace) × Contains firsts f × ◌≡◌ {A = TraceEnd} (end_of f) (end, unresolved_at) × IsChainUpTo f.chain chain
+  }) → (f : StarWalkVisit) × Contains firsts f × ◌≡◌ {A = TraceEnd} (end_of f) (end, unresolved_at) × IsChainBeforeOrEqual f.chain chain
   first_trace chain end unresolved_at has =
-      let found = first_covers is_same_end end_of ends_here ComesBefore (traces_of graph start) all_sorted
+      let found = first_covers is_same_visit_end end_of ends_here ComesBefore (star_walk_visits_of graph start) all_sorted
       (record { chain = chain; end = end; unresolved_at = unresolved_at }) has in
       (found.0, found.1, found.2, by found.0 found.3)
     where
-      by : (f : StarTrace) → (f ≡ record { chain = chain; end = end; unresolved_at = unresolved_at })
-          ⊎ ComesBefore f (record { chain = chain; end = end; unresolved_at = unresolved_at }) → IsChainUpTo f.chain chain
-      by f (inl same) = inl (ap (λ (w : StarTrace). w.chain) same)
+      by : (f : StarWalkVisit) → (f ≡ record { chain = chain; end = end; unresolved_at = unresolved_at })
+          ⊎ ComesBefore f (record { chain = chain; end = end; unresolved_at = unresolved_at }) → IsChainBeforeOrEqual f.chain chain
+      by f (inl same) = inl (ap (λ (w : StarWalkVisit). w.chain) same)
       by f (inr before) = inr before
 
   is_listed : (at : StarPosition) → IsUnresolvedStar (star_targets_of graph) start at → Contains (unresolved_stars_of graph start) at
@@ -155,10 +157,11 @@ module _ (graph : GraphView) (start : List ℕ) where
   by_least chain u c k has least =
       let dead = ends_dead graph start chain u k (was_trace (record { chain = chain; end = u; unresolved_at = Some k }) has) in
       let found = first_trace (c ++ k ∷ []) u (Some k) (dead_end_there graph start c u k least.is_chain dead.3 dead.4) in
-      let is_this : found.0 ≡ record { chain = chain; end = u; unresolved_at = Some k } = first_once is_same_end end_of ends_here (traces_of graph
+      let is_this : found.0 ≡ record { chain = chain; end = u; unresolved_at = Some k } = first_once is_same_visit_end end_of ends_here
+      (star_walk_visits_of graph
       start) found.0 (record { chain = chain; end = u; unresolved_at = Some k }) found.1 has found.2 in
-      let up_to : IsChainUpTo (dead.0 ++ k ∷ []) (c ++ k ∷ []) =
-      subst (λ q. IsChainUpTo q (c ++ k ∷ [])) dead.1 (subst (λ (w : StarTrace). IsChainUpTo w.chain (c ++ k ∷ [])) is_this found.3) in
+      let up_to : IsChainBeforeOrEqual (dead.0 ++ k ∷ []) (c ++ k ∷ []) =
+      subst (λ q. IsChainBeforeOrEqual q (c ++ k ∷ [])) dead.1 (subst (λ (w : StarWalkVisit). IsChainBeforeOrEqual w.chain (c ++ k ∷ [])) is_this found.3) in
       dead.1 ∙ ap (λ q. q ++ k ∷ []) (sym (same dead.0 dead.2 up_to (least.least dead.0 dead.2)))
     where
       -- a simple chain doesn't visit its last module earlier
@@ -169,10 +172,11 @@ module _ (graph : GraphView) (start : List ℕ) where
           let ends : chain_end_module (star_targets_of graph) start (take (length c) d) ≡ chain_end_module (star_targets_of graph) start (take (length d) d) =
           ap (chain_end_module (star_targets_of graph) start) begins
           ∙ (least.is_chain.ends_at ∙ (sym simple.ends_at ∙ ap (chain_end_module (star_targets_of graph) start) (sym (take_all (length d) d (omega arith))))) in
-          let equal : length c ≡ length d = simple.once (length c) (length d) (omega (arith, counted)) (omega arith) ends in
+          let equal : length c ≡ length d = simple.has_no_duplicates (length c) (length d) (omega (arith, counted)) (omega arith) ends in
           omega (arith, counted, equal)
 
-      same : (d : List ℕ) → IsSimpleChain (star_targets_of graph) start d u → IsChainUpTo (d ++ k ∷ []) (c ++ k ∷ []) → IsChainUpTo c d → c ≡ d
+      same : (d : List ℕ) → IsSimpleChain (star_targets_of graph) start d u → IsChainBeforeOrEqual (d ++ k ∷ []) (c ++ k ∷ []) → IsChainBeforeOrEqual c d → c
+          ≡ d
       same d simple up_to (inl equal) = equal
       same d simple up_to (inr before) = elim (with_one_more c d k before) [
         | inl still ↦ absurd (never_before_itself (d ++ k ∷ []) (up_to_then_before (d ++ k ∷ []) (c ++ k ∷ []) (d ++ k ∷ []) up_to still))
@@ -188,7 +192,7 @@ module _ (graph : GraphView) (start : List ℕ) where
 
   listed_sorted : IsSorted (IsStarStatementBefore (star_targets_of graph) start) (unresolved_stars_of graph start)
   listed_sorted = statements_sorted ComesBefore (IsStarStatementBefore (star_targets_of graph) start) firsts in_order
-      (first_sorted is_same_end end_of ends_here ComesBefore (traces_of graph start) all_sorted)
+      (first_sorted is_same_visit_end end_of ends_here ComesBefore (star_walk_visits_of graph start) all_sorted)
 
   pub unresolved_are_listed : AreUnresolvedStars (star_targets_of graph) start (unresolved_stars_of graph start)
   unresolved_are_listed = record {
@@ -197,12 +201,12 @@ module _ (graph : GraphView) (start : List ℕ) where
   }
 
   -- the first trace to a module isn't after any simple chain to it
-  pub first_up_to : (f : StarTrace) → Contains firsts f → {u : List ℕ} → ◌≡◌ {A = TraceEnd} (end_of f) (u, None) → (other : List ℕ)
-      → IsSimpleChain (star_targets_of graph) start other u → IsChainUpTo f.chain other
+  pub first_up_to : (f : StarWalkVisit) → Contains firsts f → {u : List ℕ} → ◌≡◌ {A = TraceEnd} (end_of f) (u, None) → (other : List ℕ)
+      → IsSimpleChain (star_targets_of graph) start other u → IsChainBeforeOrEqual f.chain other
   first_up_to f has {u} same other simple =
       let first = first_trace other u None (arrival_there graph start other u simple) in
-      let is_f : first.0 ≡ f = first_once is_same_end end_of ends_here (traces_of graph start) first.0 f first.1 has (first.2 ∙ sym same) in
-      subst (λ (w : StarTrace). IsChainUpTo w.chain other) is_f first.3
+      let is_f : first.0 ≡ f = first_once is_same_visit_end end_of ends_here (star_walk_visits_of graph start) first.0 f first.1 has (first.2 ∙ sym same) in
+      subst (λ (w : StarWalkVisit). IsChainBeforeOrEqual w.chain other) is_f first.3
 
   -- each reachable module has a least chain
   pub least_there : (u : List ℕ) → IsReachedByStars (star_targets_of graph) start u → (c : List ℕ) × IsLeastChain (star_targets_of graph) start c u
@@ -212,7 +216,7 @@ module _ (graph : GraphView) (start : List ℕ) where
       (λ i. record { chain = found.0.chain; end = (found.2 i).0; unresolved_at = (found.2 i).1 }) in (
         found.0.chain,
         record {
-          is_chain = arrives graph start found.0.chain u (subst (Contains (traces_of graph start)) arrives_so (was_trace found.0 found.1));
+          is_chain = arrives graph start found.0.chain u (subst (Contains (star_walk_visits_of graph start)) arrives_so (was_trace found.0 found.1));
           least = first_up_to found.0 found.1 found.2;
         },
       )

@@ -1,9 +1,9 @@
 -- The modules and statements up to a chain if a walk stops at that chain, and all of them if it comes to its end.
 use Rattle.std.proofs.Common.{ℕ, ◌≤◌, inl, inr, List, [], ◌∷◌, ◌++◌, length, None, Some, refl, arith}
 use Rattle.std.specs.Prelude.{Contains}
-use Rattle.symbols_exports.specs.Chains.{StarTargets, IsChainBefore, IsChainUpTo, AreReachedByStars}
+use Rattle.symbols_exports.specs.Chains.{StarTargets, IsChainBefore, IsChainBeforeOrEqual, AreReachedByStars}
 use Rattle.symbols_exports.specs.Exports.{StarPosition}
-use Rattle.symbols_exports.specs.OneName.{AreReachedUpTo, IsStarLookedUp, AreStarsLookedUp}
+use Rattle.symbols_exports.specs.OneName.{AreReachedUpToChain, IsStarLookedUp, AreStarsLookedUp}
 use Rattle.symbols_exports.proofs.LeastChainsVisited.{visited_are_least}
 use Rattle.symbols_exports.proofs.UnresolvedSoFar.{IsThere, AreSelected, retained_in_order, last_before}
 use Rattle.symbols_exports.proofs.ChainOrder.{before_then_before, up_to_then_before}
@@ -15,7 +15,7 @@ before_more [] k = tt
 before_more (j ∷ q) k = inr (refl, before_more q k)
 
 -- a chain before the first statement after a chain isn't after that chain
-pub up_to_first : (x q : List ℕ) → IsChainBefore x (q ++ 0 ∷ []) → IsChainUpTo x q
+pub up_to_first : (x q : List ℕ) → IsChainBefore x (q ++ 0 ∷ []) → IsChainBeforeOrEqual x q
 up_to_first [] [] before = inl refl
 up_to_first [] (j ∷ q) before = inr tt
 up_to_first (i ∷ x) [] (inl less) = absurd (omega (arith, less))
@@ -23,16 +23,16 @@ up_to_first (i ∷ x) [] (inr rest) = absurd rest.1
 up_to_first (i ∷ x) (j ∷ q) (inl less) = inr (inl less)
 up_to_first (i ∷ x) (j ∷ q) (inr rest) = on (up_to_first x q rest.1)
   where
-    on : IsChainUpTo x q → IsChainUpTo (i ∷ x) (j ∷ q)
+    on : IsChainBeforeOrEqual x q → IsChainBeforeOrEqual (i ∷ x) (j ∷ q)
     on (inl same) = inl (λ k. rest.0 k ∷ same k)
     on (inr before) = inr (inr (rest.0, before))
 
-pub before_first : (x q : List ℕ) → IsChainUpTo x q → IsChainBefore x (q ++ 0 ∷ [])
+pub before_first : (x q : List ℕ) → IsChainBeforeOrEqual x q → IsChainBefore x (q ++ 0 ∷ [])
 before_first x q up_to = up_to_then_before x q (q ++ 0 ∷ []) up_to (before_more q 0)
 
 -- before the first statement of a module that was visited by the chain
 module _ (statements : StarTargets) (start q : List ℕ) (visited : List Visit) (occurs : OccursAt statements start (q ++ 0 ∷ []) visited) where
-  pub reached_up_to : AreReachedUpTo statements start (Some q) visited
+  pub reached_up_to : AreReachedUpToChain statements start (Some q) visited
   reached_up_to = record {
     all = λ c u. (
       λ cu. let least = (visited_are_least statements start (q ++ 0 ∷ []) visited occurs c u).0 cu in (least.0, up_to_first c q least.1),
@@ -66,7 +66,7 @@ module _ (statements : StarTargets) (start q : List ℕ) (visited : List Visit) 
 
 -- after the last statement of the start
 pub reached_all : (statements : StarTargets) (start : List ℕ) (visited : List Visit) → AreReachedByStars statements start visited
-    → AreReachedUpTo statements start None visited
+    → AreReachedUpToChain statements start None visited
 reached_all statements start visited reached = record {
   all = λ c u. (λ cu. ((reached.all c u).0 cu, tt), λ least. (reached.all c u).1 least.0);
   ordered = reached.ordered;

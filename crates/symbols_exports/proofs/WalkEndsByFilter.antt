@@ -10,12 +10,12 @@ use Rattle.symbols_root.specs.Roots.{RootView, with_stored_module, IsStoringFaul
 use Rattle.symbols_exports.specs.declared.frame.Frame.{Frame}
 use Rattle.symbols_exports.specs.declared.name_filter.NameFilter.{NameFilter}
 use Rattle.symbols_exports.specs.declared.name_filter.NameFilter.TheVariants.{AllNames, OneName}
-use Rattle.symbols_exports.specs.ExportAnswers.{IsUnknownModuleFault, IsExportWalkRefused}
-use Rattle.symbols_exports.specs.OneName.{IsNameWalkRefused}
+use Rattle.symbols_exports.specs.ExportAnswers.{IsUnknownModuleFault, IsExportsWalkFault}
+use Rattle.symbols_exports.specs.OneName.{IsExportOfWalkFault}
 use Rattle.symbols_exports.specs.inner.OneName.{IsExportWalkAnswer, IsExportWalkFault}
 use Rattle.symbols_exports.specs.SharedNames.{NameWithExporters}
-use Rattle.symbols_exports.specs.SharedNameLists.{shared_groups}
-use Rattle.symbols_exports.specs.inner.Sharing.{is_along_stars}
+use Rattle.symbols_exports.specs.SharedNameLists.{groups_with_shared_exporters}
+use Rattle.symbols_exports.specs.inner.Collecting.{is_along_stars}
 use Rattle.symbols_exports.specs.StarStatements.{star_specifiers, resolve_specifier, star_targets_of}
 use Rattle.symbols_exports.specs.CollectedNames.{ResolvedExportView}
 use Rattle.symbols_exports.specs.inner.Collecting.{CollectedView}
@@ -26,8 +26,8 @@ use Rattle.symbols_exports.proofs.WalkForOneName.{name_search_ended, name_ended,
 
 -- the walk fails, by its filter
 abbrev pub IsCut : NameFilter → RootView → RootView → ModuleId → SymbolsFault → ℕ → Type 0
-IsCut AllNames old new start fault lookups = IsExportWalkRefused old new start fault lookups
-IsCut (OneName name) old new start fault lookups = IsNameWalkRefused old new start name.now fault lookups
+IsCut AllNames old new start fault lookups = IsExportsWalkFault old new start fault lookups
+IsCut (OneName name) old new start fault lookups = IsExportOfWalkFault old new start name.now fault lookups
 
 pub cut_is_fault : (name_filter : NameFilter) (old new : RootView) (start : ModuleId) (fault : SymbolsFault) (lookups : ℕ)
     → IsCut name_filter old new start fault lookups → IsExportWalkFault name_filter old new start fault lookups
@@ -79,14 +79,16 @@ cut_stored (OneName name) frame walk goes specifier_is few_here v ends_at =
 pub walked_end : (name_filter : NameFilter) {old : RootView} {start : ModuleId} {root : RootView} {here : ModuleId} {next : ℕ} {stack : List Frame} {ids : List
     ModuleId} {collected : CollectedView} {lookups : ℕ} (walk : IsWalking name_filter old start root here next stack ids collected lookups)
     → is_name_search_done name_filter collected.names ≡ false → stack ≡ [] → length (star_targets_of old.graph (specifier_in root here)) ≤ next
-    → IsExportWalkAnswer name_filter old root start collected.names (shared_groups is_along_stars collected.candidates) collected.unresolved lookups
+    → IsExportWalkAnswer name_filter old root start collected.names (groups_with_shared_exporters is_along_stars collected.candidates) collected.unresolved
+    lookups
 walked_end AllNames walk goes empty_stack ended = walking_end walk empty_stack ended
 walked_end (OneName name) walk goes empty_stack ended = name_ended walk goes empty_stack ended
 
 pub walked_done : (name_filter : NameFilter) {old : RootView} {start : ModuleId} {root : RootView} {here : ModuleId} {next : ℕ} {stack : List Frame} {ids : List
     ModuleId} {collected : CollectedView} {lookups : ℕ} (walk : IsWalking name_filter old start root here next stack ids collected lookups)
     → is_name_search_done name_filter collected.names ≡ true
-    → IsExportWalkAnswer name_filter old root start collected.names (shared_groups is_along_stars collected.candidates) collected.unresolved lookups
+    → IsExportWalkAnswer name_filter old root start collected.names (groups_with_shared_exporters is_along_stars collected.candidates) collected.unresolved
+    lookups
 walked_done AllNames walk done = absurd (true≢false (sym done))
 walked_done (OneName name) walk done = name_search_ended walk done
 
@@ -103,8 +105,8 @@ cut_after (OneName name) old new start names shared unresolved lookups is = reco
   ordered = is.are_reached.ordered;
   stored = is.stored;
   statements = is.statements;
-  lookups_are = λ at has. (is.lookups_are.all at).0 has;
-  looked_up_in_order = is.lookups_are.ordered;
+  are_looked_up_stars = λ at has. (is.are_looked_up_stars.all at).0 has;
+  looked_up_in_order = is.are_looked_up_stars.ordered;
   lookups_counted = is.lookups_counted;
   needed = None;
   is_needed = λ specifier some. absurd (none-some specifier some);

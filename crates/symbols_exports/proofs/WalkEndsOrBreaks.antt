@@ -15,16 +15,16 @@ use Rattle.symbols_root.specs.laws.Growing.{has_grown_refl, has_grown_by_stored_
 use Rattle.symbols_exports.specs.declared.frame.Frame.{Frame}
 use Rattle.symbols_exports.specs.declared.name_filter.NameFilter.{NameFilter}
 use Rattle.symbols_exports.specs.declared.name_filter.NameFilter.TheVariants.{AllNames, OneName}
-use Rattle.symbols_exports.specs.ExportAnswers.{IsExportsAnswer, IsExportWalkRefused}
+use Rattle.symbols_exports.specs.ExportAnswers.{IsExportsCallResult, IsExportsWalkFault}
 use Rattle.symbols_exports.specs.Chains.{IsReachedByStars}
 use Rattle.symbols_exports.specs.SharedNames.{NameWithExporters}
-use Rattle.symbols_exports.specs.SharedNameLists.{shared_groups, shared_name_view_of_resolved, AreExportersStored}
-use Rattle.symbols_exports.specs.inner.Sharing.{is_along_stars}
+use Rattle.symbols_exports.specs.SharedNameLists.{groups_with_shared_exporters, shared_name_view_of_resolved, AreExporterModulesStored}
+use Rattle.symbols_exports.specs.inner.Collecting.{is_along_stars}
 use Rattle.symbols_exports.specs.StarStatements.{star_specifiers, resolve_specifier, star_targets_of, explicit_exports_of}
 use Rattle.symbols_exports.specs.CollectedNames.{ResolvedExportView}
 use Rattle.symbols_exports.specs.inner.Collecting.{CollectedView}
-use Rattle.symbols_exports.specs.ExportViews.{star_statement_view, entry_export_view}
-use Rattle.symbols_exports.specs.ExportAnswers.{AreExportListsCorrectAndUnique, IsExportsFault}
+use Rattle.symbols_exports.specs.ExportViews.{star_statement_view, export_view_of_entry}
+use Rattle.symbols_exports.specs.ExportAnswers.{AreExportListsCorrectAndUnique, IsExportsCallFault}
 use Rattle.symbols_exports.specs.inner.OneName.{IsExportWalkFault}
 use Rattle.symbols_exports.proofs.DistinctNames.{exports_once}
 use Rattle.symbols_exports.proofs.ExportLists.{exports_are_listed, exports_are_one}
@@ -35,7 +35,7 @@ use Rattle.symbols_exports.proofs.VisitedModules.{visited_modules, visited_is_am
 use Rattle.symbols_exports.proofs.IdsInGrownRoots.{stored_one_more}
 use Rattle.symbols_exports.proofs.Cursors.{Visit}
 use Rattle.symbols_exports.proofs.SharedNameListsExact.{shared_are_listed, shared_are_one}
-use Rattle.symbols_exports.proofs.SharedNamesOfWalk.{shared_are, shared_numbered}
+use Rattle.symbols_exports.proofs.SharedNamesOfWalk.{are_shared_names_by_rules, shared_numbered}
 use Rattle.symbols_exports.proofs.StoringWalk.{IsWalking, forks_in, count_visited}
 use Rattle.symbols_exports.proofs.StepStoresNothing.{is_one, target_specifier}
 use Rattle.symbols_exports.proofs.WalkStates.{chain_of, cursor_of, at_entered, all_reached, all_unresolved}
@@ -52,8 +52,8 @@ module _ {name_filter : NameFilter} {old : RootView} {start : ModuleId} {root : 
   -- the walk fails at its cursor
   pub broken : (fault : SymbolsFault) (needed : Option (List ℕ)) (so_far : ℕ) → so_far ≤ count_visited (star_targets_of old.graph) walk.visited
       → ((v : List ℕ) → needed ≡ Some v → IsReachedByStars (star_targets_of old.graph) (specifier_in old start) v) → IsStoringFault root needed fault
-      → IsExportWalkRefused old root start fault so_far
-  broken fault needed so_far counted is_reached refused = record {
+      → IsExportsWalkFault old root start fault so_far
+  broken fault needed so_far counted is_needed_module_reached refused = record {
     known = walk.known;
     reached = walk.visited;
     are_least = λ c u cu. ((visited_are_least (star_targets_of old.graph) (specifier_in old start) (cursor_of (forks_in root stack) next) walk.visited
@@ -62,36 +62,39 @@ module _ {name_filter : NameFilter} {old : RootView} {start : ModuleId} {root : 
     stored = stored_is;
     lookups_counted = counted;
     needed = needed;
-    is_reached = is_reached;
+    is_needed_module_reached = is_needed_module_reached;
     refused = refused;
   }
 
   -- if an allocation failed
-  pub broken_here : IsExportWalkRefused old root start OutOfMemory lookups
+  pub broken_here : IsExportsWalkFault old root start OutOfMemory lookups
   broken_here = broken OutOfMemory None lookups (omega (arith, walk.counted)) (λ v some. absurd (none-some v some)) tt
 
 -- after the last statement, if all names are collected
 module _ {old : RootView} {start : ModuleId} {root : RootView} {here : ModuleId} {next : ℕ} {stack : List Frame} {ids : List
     ModuleId} {collected : CollectedView} {lookups : ℕ} (walk : IsWalking AllNames old start root here next stack ids collected lookups) where
   pub walking_end : stack ≡ [] → length (star_targets_of old.graph (specifier_in root here)) ≤ next
-      → IsExportsAnswer old root start collected.names (shared_groups is_along_stars collected.candidates) collected.unresolved lookups
+      → IsExportsCallResult old root start collected.names (groups_with_shared_exporters is_along_stars collected.candidates) collected.unresolved lookups
   walking_end empty_stack ended =
       let no_frames : forks_in root stack ≡ [] = ap (forks_in root) empty_stack in
       let reached = all_reached walk.at ended no_frames in
       record {
         known = walk.known;
-        names_are = sym walk.found_views ∙ ap (map (entry_export_view old.graph (specifier_in old start))) (exports_are_one old.graph (specifier_in old start)
+        are_exports_of_module = sym walk.found_views ∙ ap (map (export_view_of_entry old.graph (specifier_in old start)))
+            (exports_are_one old.graph (specifier_in old start)
             walk.found (are_exports (star_targets_of old.graph) (explicit_exports_of old.graph) (specifier_in old start) walk.visited ([], []) walk.found
             (exports_once old.graph) reached (walk.found_are ([], []))));
-        names_stored = walk.inside.names_in;
-        shared_are = ap (λ groups. map (shared_name_view_of_resolved root) (shared_groups is_along_stars groups)) walk.candidate_are
-            ∙ shared_are old.graph root (specifier_in old start) old.rules walk.visited reached walk.candidate walk.candidate_viewed;
-        shared_stored = subst (λ groups. AreExportersStored root (shared_groups is_along_stars groups)) (sym walk.candidate_are)
+        are_modules_of_exports_stored = walk.inside.names_in;
+        are_shared_names_by_rules = ap (λ groups. map (shared_name_view_of_resolved root) (groups_with_shared_exporters is_along_stars groups))
+            walk.candidate_are
+            ∙ are_shared_names_by_rules old.graph root (specifier_in old start) old.rules walk.visited reached walk.candidate walk.candidate_viewed;
+        are_exporter_modules_stored = subst (λ groups. AreExporterModulesStored root (groups_with_shared_exporters is_along_stars groups))
+            (sym walk.candidate_are)
             (shared_numbered root walk.candidate walk.candidate_in);
-        unresolved_are = sym walk.missed_viewed
+        are_unresolved_stars = sym walk.missed_viewed
             ∙ ap (map (star_statement_view old.graph)) (unresolved_are_one old.graph (specifier_in old start) walk.unresolved
             (all_unresolved walk.at ended no_frames walk.unresolved walk.missed_are));
-        unresolved_stored = walk.inside.unresolved_in;
+        are_referrers_of_stars_stored = walk.inside.unresolved_in;
         reached = walk.visited;
         are_reached = reached;
         stored = stored_is walk;
@@ -128,22 +131,22 @@ module _ {name_filter : NameFilter} {old : RootView} {start : ModuleId} {root : 
   -- if the module that the statement resolves to is refused
   pub broken_refused : (fault : SymbolsFault) → IsStoringFault root (resolve_specifier old.graph (specifier_in root frame.referrer) frame.specifier_text.now)
       fault
-      → IsExportWalkRefused old root start fault (lookups + 1)
+      → IsExportsWalkFault old root start fault (lookups + 1)
   broken_refused fault refused = broken walk fault (resolve_specifier old.graph (specifier_in root frame.referrer) frame.specifier_text.now) (lookups + 1)
       one_more next_is_reached refused
 
   -- if the statement is unresolved, and an allocation failed then
-  pub broken_unresolved : IsExportWalkRefused old root start OutOfMemory (lookups + 1)
+  pub broken_unresolved : IsExportsWalkFault old root start OutOfMemory (lookups + 1)
   broken_unresolved = broken walk OutOfMemory None (lookups + 1) one_more (λ v some. absurd (none-some v some)) tt
 
   -- if the module was stored, and an allocation failed then
   pub broken_stored : (v : List ℕ) → resolve_specifier old.graph (specifier_in root frame.referrer) frame.specifier_text.now ≡ Some v
-      → IsExportWalkRefused old (with_stored_module root (Some v)) start OutOfMemory (lookups + 1)
+      → IsExportsWalkFault old (with_stored_module root (Some v)) start OutOfMemory (lookups + 1)
   broken_stored v ends_at = by (contains_specifier (visited_modules walk.visited) v) refl
     where
       by : (b : Bool) → contains_specifier (visited_modules walk.visited) v ≡ b
-          → IsExportWalkRefused old (with_stored_module root (Some v)) start OutOfMemory (lookups + 1)
-      by true is = subst (λ r. IsExportWalkRefused old r start OutOfMemory (lookups + 1))
+          → IsExportsWalkFault old (with_stored_module root (Some v)) start OutOfMemory (lookups + 1)
+      by true is = subst (λ r. IsExportsWalkFault old r start OutOfMemory (lookups + 1))
           (sym (stored_already root v (among_stored root ids v walk.inside.ids_in (subst (λ xs. contains_specifier xs v ≡ true) walk.visited_are is))))
           broken_unresolved
       by false is =
@@ -160,14 +163,14 @@ module _ {name_filter : NameFilter} {old : RootView} {start : ModuleId} {root : 
             stored = stored_with v cursor;
             lookups_counted = omega (arith, one_more, sum_by_push (λ (m : Visit). length (star_targets_of old.graph m.1)) walk.visited (cursor, v));
             needed = None;
-            is_reached = λ w some. absurd (none-some w some);
+            is_needed_module_reached = λ w some. absurd (none-some w some);
             refused = tt;
           }
 
 -- an allocation failed after the end of the walk: all reachable modules are stored, and each of their statements was looked up
 pub answer_broken : {old new : RootView} {start : ModuleId} {names : List ResolvedExportView} {shared : List (NameWithExporters ResolvedExportView)}
     {unresolved : List (ModuleId
-    × List ℕ)} {lookups : ℕ} → IsExportsAnswer old new start names shared unresolved lookups → IsExportWalkRefused old new start OutOfMemory lookups
+    × List ℕ)} {lookups : ℕ} → IsExportsCallResult old new start names shared unresolved lookups → IsExportsWalkFault old new start OutOfMemory lookups
 answer_broken is = record {
   known = is.known;
   reached = is.reached;
@@ -176,7 +179,7 @@ answer_broken is = record {
   stored = is.stored;
   lookups_counted = omega (arith, is.lookups_counted);
   needed = None;
-  is_reached = λ specifier some. absurd (none-some specifier some);
+  is_needed_module_reached = λ specifier some. absurd (none-some specifier some);
   refused = tt;
 }
 
@@ -184,11 +187,11 @@ answer_broken is = record {
 pub are_listed : (graph : GraphView) (start : List ℕ) → AreExportListsCorrectAndUnique graph start
 are_listed graph start = record {
   are_exports = exports_are_listed graph start;
-  only_exports = exports_are_one graph start;
+  exports_are_unique = exports_are_one graph start;
   are_unresolved = unresolved_are_listed graph start;
   unresolved_are_unique = unresolved_are_one graph start;
   are_shared = shared_are_listed graph start;
-  only_shared = shared_are_one graph start;
+  shared_are_unique = shared_are_one graph start;
 }
 
 -- the root grows by what the walk stores
@@ -205,7 +208,7 @@ grown_fault (OneName name) old new start fault lookups (inr broken) = grown_by o
 pub all_grown : {A : Type 0} (r : Result A SymbolsFault) (old new : RootView) (start : ModuleId) (before now : ℕ) (names : A → List ResolvedExportView)
     (shared : A
     → List (NameWithExporters ResolvedExportView)) (unresolved : A → List (ModuleId × List ℕ)) → IfOk r (λ answer. (lookups : ℕ) × (now ≡ before + lookups)
-    × IsExportsAnswer old new start (names answer) (shared answer) (unresolved answer) lookups)
-    → IfErr r (λ fault. (lookups : ℕ) × (now ≡ before + lookups) × IsExportsFault old new start fault lookups) → HasGrown old new
+    × IsExportsCallResult old new start (names answer) (shared answer) (unresolved answer) lookups)
+    → IfErr r (λ fault. (lookups : ℕ) × (now ≡ before + lookups) × IsExportsCallFault old new start fault lookups) → HasGrown old new
 all_grown (Ok answer) old new start before now names shared unresolved is none = grown_by old (visited_modules is.2.reached) new is.2.stored
 all_grown (Err fault) old new start before now names shared unresolved none is = grown_fault AllNames old new start fault is.0 is.2

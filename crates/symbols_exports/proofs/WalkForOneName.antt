@@ -15,14 +15,15 @@ use Rattle.symbols_root.specs.Roots.{RootView, with_stored_module, IsStoringFaul
 use Rattle.symbols_root.specs.Specifiers.{contains_specifier}
 use Rattle.symbols_exports.specs.declared.frame.Frame.{Frame}
 use Rattle.symbols_exports.specs.declared.name_filter.NameFilter.TheVariants.{OneName}
-use Rattle.symbols_exports.specs.Chains.{IsChainUpTo, IsLeastChain}
+use Rattle.symbols_exports.specs.Chains.{IsChainBeforeOrEqual, IsLeastChain}
 use Rattle.symbols_exports.specs.Exports.{ExportEntry, StarPosition, AreExports, IsStarStatementBefore}
-use Rattle.symbols_exports.specs.OneName.{find_export, last_searched_chain, IsChainUpToLast, AreReachedUpTo, IsStarLookedUp, AreStarsLookedUp, IsOneNameAnswer}
-use Rattle.symbols_exports.specs.OneName.{IsNameWalkRefused}
+use Rattle.symbols_exports.specs.OneName.{find_export, last_searched_chain, IsChainNotAfterLastSearched, AreReachedUpToChain, IsStarLookedUp, AreStarsLookedUp}
+use Rattle.symbols_exports.specs.OneName.{IsExportOfCallResult}
+use Rattle.symbols_exports.specs.OneName.{IsExportOfWalkFault}
 use Rattle.symbols_exports.specs.StarStatements.{star_specifiers, resolve_specifier, star_targets_of, explicit_exports_of}
 use Rattle.symbols_exports.specs.CollectedNames.{ResolvedExportView}
 use Rattle.symbols_exports.specs.inner.Collecting.{CollectedView}
-use Rattle.symbols_exports.specs.ExportViews.{entry_export_view, export_by_specifier}
+use Rattle.symbols_exports.specs.ExportViews.{export_view_of_entry, export_by_specifier}
 use Rattle.symbols_exports.specs.inner.NameFilter.{is_name_search_done}
 use Rattle.symbols_exports.specs.Traces.{exports_of}
 use Rattle.symbols_exports.proofs.DistinctNames.{exports_once}
@@ -46,10 +47,10 @@ goes_on : (name : Bor (List ℕ)) (names : List ResolvedExportView) → is_name_
 goes_on name [] goes = (refl, goes)
 goes_on name (found ∷ names) goes = absurd (true≢false goes)
 
-after_nothing : (k : ℕ) (c : List ℕ) → c ≡ [] → IsChainUpTo (k ∷ []) c → ⊥
-after_nothing k c none up_to = by (subst (IsChainUpTo (k ∷ [])) none up_to)
+after_nothing : (k : ℕ) (c : List ℕ) → c ≡ [] → IsChainBeforeOrEqual (k ∷ []) c → ⊥
+after_nothing k c none up_to = by (subst (IsChainBeforeOrEqual (k ∷ [])) none up_to)
   where
-    by : IsChainUpTo (k ∷ []) [] → ⊥
+    by : IsChainBeforeOrEqual (k ∷ []) [] → ⊥
     by (inl same) = cc
     by (inr before) = before
 
@@ -66,24 +67,24 @@ module _ {name : Bor (List ℕ)} {old : RootView} {start : ModuleId} {root : Roo
 
   -- an answer by what the entry is
   answer_by : (entry : Option ExportEntry) (last : Option (List ℕ)) → find_export old.graph s0 name.now ≡ entry → last_searched_chain name.now entry ≡ last
-      → map (export_by_specifier root) collected.names ≡ option_to_list (option_map (entry_export_view old.graph s0) entry)
-      → AreReachedUpTo (star_targets_of old.graph) s0 last walk.visited → AreStarsLookedUp (star_targets_of old.graph) s0 last walk.following
-      → IsOneNameAnswer old root start name.now collected.names lookups
+      → map (export_by_specifier root) collected.names ≡ option_to_list (option_map (export_view_of_entry old.graph s0) entry)
+      → AreReachedUpToChain (star_targets_of old.graph) s0 last walk.visited → AreStarsLookedUp (star_targets_of old.graph) s0 last walk.following
+      → IsExportOfCallResult old root start name.now collected.names lookups
   answer_by entry last is last_is viewed reached statements = record {
     known = walk.known;
-    export_is = viewed ∙ ap (λ (e : Option ExportEntry). option_to_list (option_map (entry_export_view old.graph s0) e)) (sym is);
-    names_stored = walk.inside.names_in;
+    is_found_export = viewed ∙ ap (λ (e : Option ExportEntry). option_to_list (option_map (export_view_of_entry old.graph s0) e)) (sym is);
+    are_modules_of_exports_stored = walk.inside.names_in;
     reached = walk.visited;
-    are_reached = subst (λ l. AreReachedUpTo (star_targets_of old.graph) s0 l walk.visited) (sym (ap (last_searched_chain name.now) is ∙ last_is)) reached;
+    are_reached = subst (λ l. AreReachedUpToChain (star_targets_of old.graph) s0 l walk.visited) (sym (ap (last_searched_chain name.now) is ∙ last_is)) reached;
     stored = stored_is walk;
     statements = walk.following;
-    lookups_are = subst (λ l. AreStarsLookedUp (star_targets_of old.graph) s0 l walk.following) (sym (ap (last_searched_chain name.now) is ∙ last_is))
+    are_looked_up_stars = subst (λ l. AreStarsLookedUp (star_targets_of old.graph) s0 l walk.following) (sym (ap (last_searched_chain name.now) is ∙ last_is))
         statements;
     lookups_counted = walk.after_counted;
   }
 
   -- it was found, or isn't looked up along `export *`
-  pub name_search_ended : is_name_search_done (OneName name) collected.names ≡ true → IsOneNameAnswer old root start name.now collected.names lookups
+  pub name_search_ended : is_name_search_done (OneName name) collected.names ≡ true → IsExportOfCallResult old root start name.now collected.names lookups
   name_search_ended done = by walk.found refl
     where
       q : List ℕ
@@ -97,12 +98,12 @@ module _ {name : Bor (List ℕ)} {old : RootView} {start : ModuleId} {root : Roo
           walk.after_are
 
       answer : (entry : Option ExportEntry) → find_export old.graph s0 name.now ≡ entry → last_searched_chain name.now entry ≡ Some q
-          → map (export_by_specifier root) collected.names ≡ option_to_list (option_map (entry_export_view old.graph s0) entry)
-          → IsOneNameAnswer old root start name.now collected.names lookups
+          → map (export_by_specifier root) collected.names ≡ option_to_list (option_map (export_view_of_entry old.graph s0) entry)
+          → IsExportOfCallResult old root start name.now collected.names lookups
       answer entry is last_is viewed = answer_by entry (Some q) is last_is viewed (reached_up_to (star_targets_of old.graph) s0 q walk.visited broken_off)
           (looked_up_up_to (star_targets_of old.graph) s0 q walk.visited broken_off walk.following retained)
 
-      by : (found : List ExportEntry) → walk.found ≡ found → IsOneNameAnswer old root start name.now collected.names lookups
+      by : (found : List ExportEntry) → walk.found ≡ found → IsExportOfCallResult old root start name.now collected.names lookups
       by (e ∷ rest) is =
           let at : Contains walk.found e = subst (λ xs. Contains xs e) (sym is) (0, omega arith, refl) in
           let alone : walk.found ≡ e ∷ [] = is ∙ ap (λ xs. e ∷ xs) (one_found (star_targets_of old.graph) (explicit_exports_of old.graph) s0
@@ -113,16 +114,17 @@ module _ {name : Bor (List ℕ)} {old : RootView} {start : ModuleId} {root : Roo
           let called = is_named (star_targets_of old.graph) (explicit_exports_of old.graph) s0 (exports_once old.graph) name.now (exports_of old.graph s0) they
           cursor walk.visited walk.at.occurs walk.found walk.found_are e at in
           answer (Some e) (entry_is (star_targets_of old.graph) (explicit_exports_of old.graph) s0 (exports_once old.graph) name.now (exports_of old.graph s0)
-          they e export called) (ap Some ((walk.ends_here done).found_here e at)) (sym walk.found_views ∙ ap (map (entry_export_view old.graph s0)) alone)
+          they e export called) (ap Some ((walk.ends_here done).found_here e at)) (sym walk.found_views ∙ ap (map (export_view_of_entry old.graph s0)) alone)
       by [] is =
           let none : collected.names ≡ [] =
-          nothing_viewed (export_by_specifier root) (entry_export_view old.graph s0) collected.names walk.found (sym walk.found_views) is in
+          nothing_viewed (export_by_specifier root) (export_view_of_entry old.graph s0) collected.names walk.found (sym walk.found_views) is in
           let default : bytes_eq name.now default_export_name ≡ true = subst (λ xs. is_name_search_done (OneName name) xs ≡ true) none done in
           let begun : forks_in root stack ≡ [] = (walk.ends_here done).at_start default in
           let at_first : cursor ≡ 0 ∷ [] = (λ i. cursor_of (begun i) ((walk.ends_here done).first_statement i)) in
           let no = no_entry (star_targets_of old.graph) (explicit_exports_of old.graph) s0 (exports_once old.graph) name.now (exports_of old.graph s0) they
-          (λ e export called. after_nothing 0 e.chain (export.candidate.passed (called ∙ (bytes_eq-Decides name.now default_export_name).0 default))
-          (subst (λ p. IsChainUpTo p e.chain) at_first
+          (λ e export called. after_nothing 0 e.chain (export.candidate.default_has_empty_chain
+          (called ∙ (bytes_eq-Decides name.now default_export_name).0 default))
+          (subst (λ p. IsChainBeforeOrEqual p e.chain) at_first
           (not_before (star_targets_of old.graph) (explicit_exports_of old.graph) s0 (exports_once old.graph) name.now
           (exports_of old.graph s0) they cursor walk.visited walk.at.occurs walk.found walk.found_are is e export called))) in
           answer None no ((λ i. if default i then Some [] else None) ∙ ap (λ forks. Some (chain_of forks)) (sym begun))
@@ -130,10 +132,10 @@ module _ {name : Bor (List ℕ)} {old : RootView} {start : ModuleId} {root : Roo
 
   -- all statements were looked up
   pub name_ended : is_name_search_done (OneName name) collected.names ≡ false → stack ≡ [] → length (star_targets_of old.graph (specifier_in root here)) ≤ next
-      → IsOneNameAnswer old root start name.now collected.names lookups
+      → IsExportOfCallResult old root start name.now collected.names lookups
   name_ended goes empty_stack ended =
       let none = goes_on name collected.names goes in
-      let nothing : walk.found ≡ [] = nothing_viewed (entry_export_view old.graph s0) (export_by_specifier root) walk.found collected.names walk.found_views
+      let nothing : walk.found ≡ [] = nothing_viewed (export_view_of_entry old.graph s0) (export_by_specifier root) walk.found collected.names walk.found_views
       none.0 in
       let no_frames : forks_in root stack ≡ [] = ap (forks_in root) empty_stack in
       let no = no_entry (star_targets_of old.graph) (explicit_exports_of old.graph) s0 (exports_once old.graph) name.now (exports_of old.graph s0) they
@@ -147,10 +149,11 @@ module _ {name : Bor (List ℕ)} {old : RootView} {start : ModuleId} {root : Roo
 
   module _ (goes : is_name_search_done (OneName name) collected.names
       ≡ false) (specifier_text : List ℕ) (specifier_is : slice_get (star_specifiers old.graph (specifier_in root here)) next ≡ Some specifier_text) where
-    within : (c : List ℕ) → IsChainUpTo c cursor → IsChainUpToLast (last_searched_chain name.now (find_export old.graph s0 name.now)) c
+    within : (c : List ℕ) → IsChainBeforeOrEqual c cursor → IsChainNotAfterLastSearched (last_searched_chain name.now (find_export old.graph s0 name.now)) c
     within c up_to =
         let none = goes_on name collected.names goes in
-        let nothing : walk.found ≡ [] = nothing_viewed (entry_export_view old.graph s0) (export_by_specifier root) walk.found collected.names walk.found_views
+        let nothing : walk.found ≡ [] = nothing_viewed (export_view_of_entry old.graph s0)
+        (export_by_specifier root) walk.found collected.names walk.found_views
         none.0 in
         within_last (star_targets_of old.graph) (explicit_exports_of old.graph) s0 (exports_once old.graph) name.now (exports_of old.graph s0) they cursor
         walk.visited walk.at.occurs walk.found walk.found_are nothing none.1 c up_to
@@ -185,22 +188,22 @@ module _ {name : Bor (List ℕ)} {old : RootView} {start : ModuleId} {root : Roo
     in_order = retained_in_order (IsThere (star_targets_of old.graph)) (star_targets_of old.graph) s0 cursor walk.visited looked_up_now walk.at.occurs
         (after_next walk specifier_text specifier_is).ordered
 
-    is_reached : (c u : List ℕ) → Contains walk.visited (c, u)
-        → IsLeastChain (star_targets_of old.graph) s0 c u × IsChainUpToLast (last_searched_chain name.now (find_export old.graph s0 name.now)) c
-    is_reached c u cu = let least = (visited_are_least (star_targets_of old.graph) s0 cursor walk.visited walk.at.occurs c u).0 cu in
+    is_needed_module_reached : (c u : List ℕ) → Contains walk.visited (c, u)
+        → IsLeastChain (star_targets_of old.graph) s0 c u × IsChainNotAfterLastSearched (last_searched_chain name.now (find_export old.graph s0 name.now)) c
+    is_needed_module_reached c u cu = let least = (visited_are_least (star_targets_of old.graph) s0 cursor walk.visited walk.at.occurs c u).0 cu in
         (least.0, within c (inr least.1))
 
     -- nothing more is stored
     pub name_broken : (fault : SymbolsFault) (needed : Option (List ℕ)) → ((v : List ℕ) → needed ≡ Some v → resolve_specifier old.graph (specifier_in root
-        here) specifier_text ≡ Some v) → IsStoringFault root needed fault → IsNameWalkRefused old root start name.now fault (lookups + 1)
+        here) specifier_text ≡ Some v) → IsStoringFault root needed fault → IsExportOfWalkFault old root start name.now fault (lookups + 1)
     name_broken fault needed is_needed refused = record {
       known = walk.known;
       reached = walk.visited;
-      are_reached = is_reached;
+      are_reached = is_needed_module_reached;
       ordered = walk.at.occurs.ordered;
       stored = stored_is walk;
       statements = looked_up_now;
-      lookups_are = is_looked_up;
+      are_looked_up_stars = is_looked_up;
       looked_up_in_order = in_order;
       lookups_counted = omega (arith, walk.after_counted, length_push walk.following this);
       needed = needed;
@@ -211,12 +214,12 @@ module _ {name : Bor (List ℕ)} {old : RootView} {start : ModuleId} {root : Roo
     -- the module was stored, and an allocation failed then
     pub name_broken_stored : (v : List ℕ) → resolve_specifier old.graph (specifier_in root here) specifier_text ≡ Some v
         → (with_stored_module root (Some v) ≡ with_stored_modules old (visited_modules (walk.visited ++ (cursor, v) ∷ [])))
-        → IsNameWalkRefused old (with_stored_module root (Some v)) start name.now OutOfMemory (lookups + 1)
+        → IsExportOfWalkFault old (with_stored_module root (Some v)) start name.now OutOfMemory (lookups + 1)
     name_broken_stored v ends_at stored = by (contains_specifier (visited_modules walk.visited) v) refl
       where
         by : (b : Bool) → contains_specifier (visited_modules walk.visited) v ≡ b
-            → IsNameWalkRefused old (with_stored_module root (Some v)) start name.now OutOfMemory (lookups + 1)
-        by true is = subst (λ r. IsNameWalkRefused old r start name.now OutOfMemory (lookups + 1))
+            → IsExportOfWalkFault old (with_stored_module root (Some v)) start name.now OutOfMemory (lookups + 1)
+        by true is = subst (λ r. IsExportOfWalkFault old r start name.now OutOfMemory (lookups + 1))
             (sym (stored_already root v (among_stored root ids v walk.inside.ids_in (subst (λ xs. contains_specifier xs v ≡ true) walk.visited_are is))))
             (name_broken OutOfMemory None (λ w some. absurd (none-some w some)) tt)
         by false is =
@@ -234,7 +237,7 @@ module _ {name : Bor (List ℕ)} {old : RootView} {start : ModuleId} {root : Roo
               ordered = at.occurs.ordered;
               stored = stored;
               statements = looked_up_now;
-              lookups_are = is_looked_up;
+              are_looked_up_stars = is_looked_up;
               looked_up_in_order = in_order;
               lookups_counted = omega (arith, walk.after_counted, length_push walk.following this);
               needed = None;
@@ -243,13 +246,13 @@ module _ {name : Bor (List ℕ)} {old : RootView} {start : ModuleId} {root : Roo
             }
           where
             within_too : (c u : List ℕ) → Contains walk.visited (c, u) ⊎ ◌≡◌ {A = Visit} (cursor, v) (c, u)
-                → IsChainUpToLast (last_searched_chain name.now (find_export old.graph s0 name.now)) c
-            within_too c u (inl was) = (is_reached c u was).1
+                → IsChainNotAfterLastSearched (last_searched_chain name.now (find_export old.graph s0 name.now)) c
+            within_too c u (inl was) = (is_needed_module_reached c u was).1
             within_too c u (inr same) = within c (inl (ap (λ (m : Visit). m.0) (sym same)))
 
 -- the search fails before the first statement
 pub name_broken_first : (name : List ℕ) (old : RootView) (start : ModuleId) → start.0 < length old.stored
-    → with_stored_module old (Some (specifier_in old start)) ≡ old → IsNameWalkRefused old old start name OutOfMemory 0
+    → with_stored_module old (Some (specifier_in old start)) ≡ old → IsExportOfWalkFault old old start name OutOfMemory 0
 name_broken_first name old start known is_stored = record {
   known = known;
   reached = ([], specifier_in old start) ∷ [];
@@ -259,7 +262,7 @@ name_broken_first name old start known is_stored = record {
   ordered = first.ordered;
   stored = sym is_stored;
   statements = [];
-  lookups_are = λ at has. absurd (omega (arith, has.1));
+  are_looked_up_stars = λ at has. absurd (omega (arith, has.1));
   looked_up_in_order = λ i j d less within. absurd (omega (arith, within));
   lookups_counted = refl;
   needed = None;
@@ -273,6 +276,6 @@ name_broken_first name old start known is_stored = record {
     no_chain : (c u : List ℕ) → Contains {X = Visit} (([], specifier_in old start) ∷ []) (c, u) → [] ≡ c
     no_chain c u cu = (start_alone (specifier_in old start) c u cu).0
 
-    within_any : (last : Option (List ℕ)) (c : List ℕ) → [] ≡ c → IsChainUpToLast last c
+    within_any : (last : Option (List ℕ)) (c : List ℕ) → [] ≡ c → IsChainNotAfterLastSearched last c
     within_any None c none = tt
-    within_any (Some last) c none = subst (λ d. IsChainUpTo d last) none (beginning_up_to 0 last)
+    within_any (Some last) c none = subst (λ d. IsChainBeforeOrEqual d last) none (beginning_up_to 0 last)

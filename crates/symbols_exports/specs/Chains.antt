@@ -19,7 +19,7 @@ chain_end_module statements specifier (position ∷ rest) =
 -- a chain from one module to another that visits no module twice
 pub record IsSimpleChain (statements : StarTargets) (start : List ℕ) (chain : List ℕ) (end : List ℕ) : Type 0 where
   pub ends_at : chain_end_module statements start chain ≡ Some end
-  pub once : (j k : ℕ) → j ≤ length chain → k ≤ length chain
+  pub has_no_duplicates : (j k : ℕ) → j ≤ length chain → k ≤ length chain
       → chain_end_module statements start (take j chain) ≡ chain_end_module statements start (take k chain) → j ≡ k
 
 -- chain order: the first index that differs decides, and a proper prefix of a chain comes before it
@@ -28,13 +28,13 @@ IsChainBefore _ [] = ⊥
 IsChainBefore [] (_ ∷ _) = Unit {0}
 IsChainBefore (i ∷ chain) (j ∷ other) = (i < j) ⊎ ((i ≡ j) × IsChainBefore chain other)
 
-abbrev pub IsChainUpTo : List ℕ → List ℕ → Type 0
-IsChainUpTo chain other = (chain ≡ other) ⊎ IsChainBefore chain other
+abbrev pub IsChainBeforeOrEqual : List ℕ → List ℕ → Type 0
+IsChainBeforeOrEqual chain other = (chain ≡ other) ⊎ IsChainBefore chain other
 
 -- the first in chain order of the simple chains to the module
 pub record IsLeastChain (statements : StarTargets) (start : List ℕ) (chain : List ℕ) (end : List ℕ) : Type 0 where
   pub is_chain : IsSimpleChain statements start chain end
-  pub least : (other : List ℕ) → IsSimpleChain statements start other end → IsChainUpTo chain other
+  pub least : (other : List ℕ) → IsSimpleChain statements start other end → IsChainBeforeOrEqual chain other
 
 -- some simple chain ends at the module
 abbrev pub IsReachedByStars : StarTargets → List ℕ → List ℕ → Type 0

@@ -11,8 +11,8 @@ use Rattle.symbols_exports.specs.ExportChains.{resolved_export, statements_of_ch
 use Rattle.symbols_exports.specs.SharedNames.{NameWithExporters}
 
 -- an unresolved statement, by the number of its module and its specifier
-abbrev pub unresolved_specifier_view : UnresolvedSpecifier → ModuleId × List ℕ
-unresolved_specifier_view statement = (statement.referrer, statement.specifier.now)
+abbrev pub unresolved_star_view : UnresolvedSpecifier → ModuleId × List ℕ
+unresolved_star_view statement = (statement.referrer, statement.specifier.now)
 
 -- a name, the statements of its chain, and the export at the end
 pub record ResolvedExportView : Type 0 where

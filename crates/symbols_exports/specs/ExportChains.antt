@@ -28,5 +28,5 @@ chain_first_module (Export export) = export.«module»
 chain_first_module (ReExportAllPath' referrer specifier_text p rest) = referrer
 
 -- the suffixes of a chain that an iterator has yet to return
-abbrev pub remaining_suffixes : ChainIter → List ResolvedExportOrReExportAllPath
-remaining_suffixes paths = option_map_or (λ path. chain_suffixes path.now) paths.rest []
+abbrev pub remaining_chain_suffixes : ChainIter → List ResolvedExportOrReExportAllPath
+remaining_chain_suffixes paths = option_map_or (λ path. chain_suffixes path.now) paths.rest []

@@ -29,8 +29,8 @@ pub record ExportView : Type 0 where
   pub exporter : List ℕ
   pub symbol : SymbolId
 
-abbrev pub entry_export_view : GraphView → List ℕ → ExportEntry → ExportView
-entry_export_view graph start entry =
+abbrev pub export_view_of_entry : GraphView → List ℕ → ExportEntry → ExportView
+export_view_of_entry graph start entry =
     record { name = entry.name; statements = chain_statements graph start entry.chain; exporter = entry.exporter; symbol = entry.symbol }
 
 -- statements and exports whose modules are numbers of a root, by specifier
@@ -46,12 +46,12 @@ export_by_specifier root name = record {
 }
 
 -- all module numbers in the statements, and in the names, are those of stored modules
-abbrev pub AreStatementsStored : RootView → List (ModuleId × List ℕ) → Type 0
-AreStatementsStored root statements = All (λ (statement : ModuleId × List ℕ). statement.0.0 < length root.stored) statements
+abbrev pub AreReferrersOfStarsStored : RootView → List (ModuleId × List ℕ) → Type 0
+AreReferrersOfStarsStored root statements = All (λ (statement : ModuleId × List ℕ). statement.0.0 < length root.stored) statements
 
-pub record IsExportStored (root : RootView) (name : ResolvedExportView) : Type 0 where
-  pub statements_are_stored : AreStatementsStored root name.statements
+pub record AreModulesOfExportStored (root : RootView) (name : ResolvedExportView) : Type 0 where
+  pub statements_are_stored : AreReferrersOfStarsStored root name.statements
   pub export_is_stored : name.export.«module».0 < length root.stored
 
-abbrev pub AreExportsStored : RootView → List ResolvedExportView → Type 0
-AreExportsStored root names = All (IsExportStored root) names
+abbrev pub AreModulesOfExportsStored : RootView → List ResolvedExportView → Type 0
+AreModulesOfExportsStored root names = All (AreModulesOfExportStored root) names

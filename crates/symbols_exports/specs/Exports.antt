@@ -2,7 +2,7 @@
 use Rattle.std.specs.Prelude.{◌≡◌, ℕ, ◌<◌, ◌⊎◌, ◌↔◌, List, [], ◌∷◌, ◌++◌, length, take, None, Contains, AllPairs, slice_get, Some}
 use Rattle.symbols_ast.specs.declared.ids.SymbolId.{SymbolId}
 use Rattle.symbols_table.specs.Events.{default_export_name}
-use Rattle.symbols_exports.specs.Chains.{StarTargets, star_target_at, IsSimpleChain, IsChainBefore, IsChainUpTo, IsLeastChain, IsReachedByStars}
+use Rattle.symbols_exports.specs.Chains.{StarTargets, star_target_at, IsSimpleChain, IsChainBefore, IsChainBeforeOrEqual, IsLeastChain, IsReachedByStars}
 
 -- for each module its local exports: names with their symbols
 abbrev pub ExplicitExports : Type 0
@@ -18,13 +18,13 @@ pub record ExportEntry : Type 0 where
 -- a candidate: a simple chain ends at a module that exports the name locally. For `default` the chain is empty: no `export *` re-exports it
 pub record IsExportCandidate (statements : StarTargets) (explicit : ExplicitExports) (start : List ℕ) (entry : ExportEntry) : Type 0 where
   pub ends_at : IsSimpleChain statements start entry.chain entry.exporter
-  pub exports_name : Contains (explicit entry.exporter) (entry.name, entry.symbol)
-  pub passed : entry.name ≡ default_export_name → entry.chain ≡ []
+  pub exporter_exports_name_explicitly : Contains (explicit entry.exporter) (entry.name, entry.symbol)
+  pub default_has_empty_chain : entry.name ≡ default_export_name → entry.chain ≡ []
 
 -- an export: the candidate with the least chain among those of its name
 pub record IsExport (statements : StarTargets) (explicit : ExplicitExports) (start : List ℕ) (entry : ExportEntry) : Type 0 where
   pub candidate : IsExportCandidate statements explicit start entry
-  pub least : (other : ExportEntry) → IsExportCandidate statements explicit start other → other.name ≡ entry.name → IsChainUpTo entry.chain other.chain
+  pub least : (other : ExportEntry) → IsExportCandidate statements explicit start other → other.name ≡ entry.name → IsChainBeforeOrEqual entry.chain other.chain
 
 -- x occurs in the list before an occurrence of y
 abbrev pub IsListedBefore : {A : Type 0} → List A → A → A → Type 0

@@ -31,23 +31,23 @@ abbrev pub exports_of_symbol : GraphView → List ℕ → SymbolId → List (Lis
 exports_of_symbol graph specifier symbol = exports_after (changes_of_module graph specifier) symbol
 
 -- one item for each export of a symbol, in order; constructors and index signatures are left out
-abbrev pub member_name_views : List ℕ → List (List ℕ × SymbolId) → List PublicNameView
-member_name_views name members = map (λ (member : List ℕ × SymbolId). record { name = name; member = Some member.0 })
+abbrev pub public_names_of_members : List ℕ → List (List ℕ × SymbolId) → List PublicNameView
+public_names_of_members name members = map (λ (member : List ℕ × SymbolId). record { name = name; member = Some member.0 })
     (filter (λ (member : List ℕ × SymbolId). not (is_constructor_or_index_signature member.0)) members)
 
 -- the name without a member, then with each member
-abbrev pub name_with_members : List ℕ → List (List ℕ × SymbolId) → List PublicNameView
-name_with_members name members = record { name = name; member = None } ∷ member_name_views name members
+abbrev pub public_names_with_members : List ℕ → List (List ℕ × SymbolId) → List PublicNameView
+public_names_with_members name members = record { name = name; member = None } ∷ public_names_of_members name members
 
 -- the public names of a module: those of each export, in order
 abbrev pub public_names_of : GraphView → List ℕ → List PublicNameView
-public_names_of graph start = flat_map (λ (entry : ExportEntry). name_with_members entry.name (exports_of_symbol graph entry.exporter entry.symbol))
+public_names_of graph start = flat_map (λ (entry : ExportEntry). public_names_with_members entry.name (exports_of_symbol graph entry.exporter entry.symbol))
     (exports_of graph start)
 
 -- `public_names` succeeds: the public names of the stored module of this number are returned, and all reachable modules are stored
-pub record IsPublicNamesAnswer (old new : RootView) (start : ModuleId) (items : List PublicNameView) : Type 0 where
+pub record IsPublicNamesCallResult (old new : RootView) (start : ModuleId) (items : List PublicNameView) : Type 0 where
   pub known : start.0 < length old.stored
-  pub items_are : items ≡ public_names_of old.graph (specifier_in old start)
+  pub are_public_names : items ≡ public_names_of old.graph (specifier_in old start)
   pub reached : List (List ℕ × List ℕ)
   pub are_reached : AreReachedByStars (star_targets_of old.graph) (specifier_in old start) reached
   pub stored : new ≡ with_stored_modules old (map (λ (m : List ℕ × List ℕ). m.1) reached)

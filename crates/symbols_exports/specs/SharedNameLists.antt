@@ -10,20 +10,20 @@ use Rattle.symbols_exports.specs.Exports.{ExplicitExports, ExportEntry}
 use Rattle.symbols_exports.specs.SharedNames.{NameWithExporters}
 use Rattle.symbols_exports.specs.StarStatements.{explicit_exports_of}
 use Rattle.symbols_exports.specs.CollectedNames.{ResolvedExportView}
-use Rattle.symbols_exports.specs.ExportViews.{ExportView, entry_export_view, export_by_specifier, AreExportsStored}
-use Rattle.symbols_exports.specs.Traces.{StarTrace, traces_of, first_distinct_by, export_candidates_along_chain, is_same_end}
+use Rattle.symbols_exports.specs.ExportViews.{ExportView, export_view_of_entry, export_by_specifier, AreModulesOfExportsStored}
+use Rattle.symbols_exports.specs.Traces.{StarWalkVisit, star_walk_visits_of, first_distinct_by, export_candidates_along_chain, is_same_visit_end}
 
 -- the chain and the module of a trace to a module; none for a trace to an unresolved statement
-abbrev pub reached_by_trace : StarTrace → Option (List ℕ × List ℕ)
-reached_by_trace trace = option_map_or (λ position. None) trace.unresolved_at (Some (trace.chain, trace.end))
+abbrev pub module_reached_by_visit : StarWalkVisit → Option (List ℕ × List ℕ)
+module_reached_by_visit trace = option_map_or (λ position. None) trace.unresolved_at (Some (trace.chain, trace.end))
 
 -- the reachable modules, each with the first chain to it
-abbrev pub reached_modules_of : GraphView → List ℕ → List (List ℕ × List ℕ)
-reached_modules_of graph start = filter_map reached_by_trace (first_distinct_by is_same_end (traces_of graph start))
+abbrev pub star_reached_modules_of : GraphView → List ℕ → List (List ℕ × List ℕ)
+star_reached_modules_of graph start = filter_map module_reached_by_visit (first_distinct_by is_same_visit_end (star_walk_visits_of graph start))
 
 -- the candidates of these modules along these chains
-abbrev pub export_candidates_of : ExplicitExports → List (List ℕ × List ℕ) → List ExportEntry
-export_candidates_of explicit reached = flat_map (λ (m : List ℕ × List ℕ). export_candidates_along_chain m.0 m.1 (explicit m.1)) reached
+abbrev pub export_candidates_along_chains : ExplicitExports → List (List ℕ × List ℕ) → List ExportEntry
+export_candidates_along_chains explicit reached = flat_map (λ (m : List ℕ × List ℕ). export_candidates_along_chain m.0 m.1 (explicit m.1)) reached
 
 -- the elements grouped by name, each group at the index of its first element
 abbrev pub grouped_by_name : {A : Type 0} → (A → List ℕ) → List A → List (NameWithExporters A)
@@ -32,16 +32,16 @@ grouped_by_name name (x ∷ xs) = record { name = name x; exporters = x ∷ filt
     ∷ filter (λ group. not (bytes_eq (name x) group.name)) (grouped_by_name name xs)
 
 -- whether the group has two or more elements, and the first comes along an `export *`
-abbrev pub is_shared_group : {A : Type 0} → (A → Bool) → List A → Bool
-is_shared_group is_along [] = false
-is_shared_group is_along (x ∷ []) = false
-is_shared_group is_along (x ∷ y ∷ rest) = is_along x
+abbrev pub has_shared_exporters : {A : Type 0} → (A → Bool) → List A → Bool
+has_shared_exporters is_along [] = false
+has_shared_exporters is_along (x ∷ []) = false
+has_shared_exporters is_along (x ∷ y ∷ rest) = is_along x
 
-abbrev pub shared_groups : {A : Type 0} → (A → Bool) → List (NameWithExporters A) → List (NameWithExporters A)
-shared_groups is_along groups = filter (λ group. is_shared_group is_along group.exporters) groups
+abbrev pub groups_with_shared_exporters : {A : Type 0} → (A → Bool) → List (NameWithExporters A) → List (NameWithExporters A)
+groups_with_shared_exporters is_along groups = filter (λ group. has_shared_exporters is_along group.exporters) groups
 
-abbrev pub shared_among : {A : Type 0} → (A → List ℕ) → (A → Bool) → List A → List (NameWithExporters A)
-shared_among name is_along candidates = shared_groups is_along (grouped_by_name name candidates)
+abbrev pub shared_names_among : {A : Type 0} → (A → List ℕ) → (A → Bool) → List A → List (NameWithExporters A)
+shared_names_among name is_along candidates = groups_with_shared_exporters is_along (grouped_by_name name candidates)
 
 abbrev pub is_nonempty_chain : List ℕ → Bool
 is_nonempty_chain [] = false
@@ -49,24 +49,24 @@ is_nonempty_chain (position ∷ rest) = true
 
 -- the shared names of a module
 abbrev pub shared_names_of : GraphView → List ℕ → List (NameWithExporters ExportEntry)
-shared_names_of graph start = shared_among (λ (e : ExportEntry). e.name) (λ (e : ExportEntry). is_nonempty_chain e.chain)
-    (export_candidates_of (explicit_exports_of graph) (reached_modules_of graph start))
+shared_names_of graph start = shared_names_among (λ (e : ExportEntry). e.name) (λ (e : ExportEntry). is_nonempty_chain e.chain)
+    (export_candidates_along_chains (explicit_exports_of graph) (star_reached_modules_of graph start))
 
 -- the shared names as answers return them
-abbrev pub shared_name_entry_view : GraphView → List ℕ → NameWithExporters ExportEntry → NameWithExporters ExportView
-shared_name_entry_view graph start shared = record { name = shared.name; exporters = map (entry_export_view graph start) shared.exporters }
+abbrev pub shared_name_view_of_entry : GraphView → List ℕ → NameWithExporters ExportEntry → NameWithExporters ExportView
+shared_name_view_of_entry graph start shared = record { name = shared.name; exporters = map (export_view_of_entry graph start) shared.exporters }
 
-abbrev pub views_of_shared_names : GraphView → List ℕ → List (NameWithExporters ExportView)
-views_of_shared_names graph start = map (shared_name_entry_view graph start) (shared_names_of graph start)
+abbrev pub shared_name_views_of_module : GraphView → List ℕ → List (NameWithExporters ExportView)
+shared_name_views_of_module graph start = map (shared_name_view_of_entry graph start) (shared_names_of graph start)
 
 -- the shared names by the rules: none by Deno's
-abbrev pub shared_views_by_rules : Rules → GraphView → List ℕ → List (NameWithExporters ExportView)
-shared_views_by_rules Deno graph start = []
-shared_views_by_rules Strict graph start = views_of_shared_names graph start
+abbrev pub shared_name_views_if_strict : Rules → GraphView → List ℕ → List (NameWithExporters ExportView)
+shared_name_views_if_strict Deno graph start = []
+shared_name_views_if_strict Strict graph start = shared_name_views_of_module graph start
 
 -- shared names whose modules are numbers of a root, by specifier; and that these numbers are those of stored modules
 abbrev pub shared_name_view_of_resolved : RootView → NameWithExporters ResolvedExportView → NameWithExporters ExportView
 shared_name_view_of_resolved root shared = record { name = shared.name; exporters = map (export_by_specifier root) shared.exporters }
 
-abbrev pub AreExportersStored : RootView → List (NameWithExporters ResolvedExportView) → Type 0
-AreExportersStored root names = All (λ (shared : NameWithExporters ResolvedExportView). AreExportsStored root shared.exporters) names
+abbrev pub AreExporterModulesStored : RootView → List (NameWithExporters ResolvedExportView) → Type 0
+AreExporterModulesStored root names = All (λ (shared : NameWithExporters ResolvedExportView). AreModulesOfExportsStored root shared.exporters) names

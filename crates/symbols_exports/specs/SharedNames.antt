@@ -14,20 +14,20 @@ pub record NameWithExporters (A : Type 0) : Type 0 where
 pub record IsExporter (statements : StarTargets) (explicit : ExplicitExports) (start : List ℕ) (name : List ℕ) (entry : ExportEntry) : Type 0 where
   pub named : entry.name ≡ name
   pub ends_at : IsLeastChain statements start entry.chain entry.exporter
-  pub exports_name : Contains (explicit entry.exporter) (name, entry.symbol)
+  pub exporter_exports_name_explicitly : Contains (explicit entry.exporter) (name, entry.symbol)
 
 -- two different modules export the name locally
 pub record HasTwoExporters (statements : StarTargets) (explicit : ExplicitExports) (start : List ℕ) (name : List ℕ) : Type 0 where
   pub one : ExportEntry
   pub other : ExportEntry
-  pub first_exports_name : IsExporter statements explicit start name one
-  pub second_exports_name : IsExporter statements explicit start name other
-  pub are_two : one.exporter ≡ other.exporter → ⊥
+  pub one_is_exporter : IsExporter statements explicit start name one
+  pub other_is_exporter : IsExporter statements explicit start name other
+  pub exporters_are_different : one.exporter ≡ other.exporter → ⊥
 
 -- a shared name: two modules export it locally, it isn't `default`, and the module at which the chains begin doesn't export it locally
 pub record IsSharedName (statements : StarTargets) (explicit : ExplicitExports) (start : List ℕ) (name : List ℕ) : Type 0 where
-  pub not_default : name ≡ default_export_name → ⊥
-  pub not_explicit : (symbol : SymbolId) → Contains (explicit start) (name, symbol) → ⊥
+  pub is_not_default : name ≡ default_export_name → ⊥
+  pub is_not_exported_by_start : (symbol : SymbolId) → Contains (explicit start) (name, symbol) → ⊥
   pub two : HasTwoExporters statements explicit start name
 
 -- a shared name with all its exporters, in chain order

@@ -1,17 +1,18 @@
 //! The exports that a walk has collected so far.
 
-ghost use Rattle.std.specs.Prelude.{◌≡◌, ◌<◌, ◌∷◌, ◌++◌, IfOk, OnOk, [], length, map, is_some};
+ghost use Rattle.std.specs.Prelude.{◌≡◌, ◌<◌, ◌∷◌, ◌++◌, IfOk, OnOk, [], length, map};
+ghost use Rattle.std.specs.Prelude.{option_map};
 ghost use Rattle.std.specs.Prelude.{string_bytes, String};
 ghost use Rattle.std.specs.Global.{Global};
 ghost use Rattle.std.specs.List.{position};
 ghost use Rattle.std.specs.Map.{keys_of, lookup};
 ghost use Rattle.std.specs.Str.{bytes_eq};
 ghost use Rattle.symbols_root.specs.Roots.{specifier_in};
-ghost use Rattle.symbols_exports.specs.SharedNameLists.{shared_groups};
-ghost use Rattle.symbols_exports.specs.inner.Sharing.{is_along_stars};
+ghost use Rattle.symbols_exports.specs.SharedNameLists.{groups_with_shared_exporters};
+ghost use Rattle.symbols_exports.specs.inner.Collecting.{is_along_stars};
 ghost use Rattle.symbols_exports.specs.CollectedNames.{resolved_export_views};
 ghost use Rattle.symbols_exports.specs.CollectedNames.{resolved_shared_name_views};
-ghost use Rattle.symbols_exports.specs.CollectedNames.{unresolved_specifier_view};
+ghost use Rattle.symbols_exports.specs.CollectedNames.{unresolved_star_view};
 ghost use Rattle.symbols_exports.specs.inner.Collecting.{frame_view, nothing_collected};
 ghost use Rattle.symbols_exports.specs.inner.Collecting.{with_unresolved};
 ghost use Rattle.symbols_exports.specs.inner.Collecting.{walk_with_exports_of_module};
@@ -22,7 +23,7 @@ use crate::frame::Frame;
 use crate::frame_chain::{chain_of_frames, is_excluded_default};
 use crate::module_exports::{ModuleExports, UnresolvedSpecifier};
 use crate::name_filter::NameFilter;
-use crate::shadowed::{LaterChains, push_later_chain, shared_names};
+use crate::shadowed::{LaterChains, is_re_exported, push_later_chain, shared_names};
 use crate::star_statements::{explicit_export, explicit_exports};
 use indexmap::IndexMap;
 use std::alloc::{AllocError, Global};
@@ -32,21 +33,22 @@ use symbols_graph::ids::ModuleId;
 use symbols_root::RootSymbol;
 use symbols_table::decl::Exports;
 
-/// Returns the index of a collected name, or `None` if it wasn't collected. An empty map isn't
-/// searched.
-fn index_of(
-    resolved: &IndexMap<String, ResolvedExportOrReExportAllPath<'_>, RandomState>,
+/// Returns the index of a collected name and its first chain, or `None` if it wasn't collected. An
+/// empty map isn't searched.
+fn first_chain_of<'m, 'a>(
+    resolved: &'m IndexMap<String, ResolvedExportOrReExportAllPath<'a>, RandomState>,
     name: &str,
-) -> Option<usize>
-    ensures index { result ≡ position (λ (key : String Global).
+) -> Option<(usize, &'m ResolvedExportOrReExportAllPath<'a>)>
+    ensures index { option_map (λ found. found.0) result ≡ position (λ (key : String Global).
         bytes_eq name.now (string_bytes key)) (keys_of resolved.now.entries) }
-    ensures found { is_some result ≡ is_some (lookup
-        (λ (key : String Global). bytes_eq name.now (string_bytes key)) resolved.now.entries) }
+    ensures chain { option_map (λ found. found.1.now) result ≡ lookup
+        (λ (key : String Global). bytes_eq name.now (string_bytes key)) resolved.now.entries }
 {
     if resolved.is_empty() {
         return None;
     }
-    resolved.get_index_of(name)
+    let (index, _, chain) = resolved.get_full(name)?;
+    Some((index, chain))
 }
 
 /// The collected names with their first chains, and the unresolved statements. If shared names are
@@ -62,7 +64,7 @@ pub(crate) struct CollectedExports<'a> {
 impl<'a> Model for CollectedExports<'a> {
     ghost use Rattle.std.specs.Prelude.{◌≤◌, length, map, [], if◌then◌else◌};
     ghost use Rattle.symbols_exports.specs.CollectedNames.{resolved_export_views};
-    ghost use Rattle.symbols_exports.specs.CollectedNames.{unresolved_specifier_view};
+    ghost use Rattle.symbols_exports.specs.CollectedNames.{unresolved_star_view};
     ghost use Rattle.symbols_exports.specs.inner.Collecting.{ExportWalkView, chain_lists_view};
     ghost use Rattle.symbols_exports.specs.inner.Collecting.{shared_groups_of};
 
@@ -74,7 +76,7 @@ impl<'a> Model for CollectedExports<'a> {
         names = resolved_export_views t.resolved.entries;
         candidates = if t.collects_shared
             then shared_groups_of t.resolved.entries (chain_lists_view t.shadowed.items) else [];
-        unresolved = map unresolved_specifier_view t.unresolved.items;
+        unresolved = map unresolved_star_view t.unresolved.items;
       };
     } };
 
@@ -99,7 +101,8 @@ impl<'a> CollectedExports<'a> {
     }
 
     /// Adds the chain to an export under its name. `default` is skipped if an `export *` was
-    /// followed. A later chain of a known name is stored only if shared names are collected.
+    /// followed. A later chain of a known name is stored only if shared names are collected and the
+    /// queried module itself doesn't export the name.
     fn add_collected_name(
         &mut self,
         alloc: Global,
@@ -113,12 +116,12 @@ impl<'a> CollectedExports<'a> {
         if is_excluded_default(name, stack) {
             return Ok(());
         }
-        let Some(index) = index_of(&self.resolved, name) else {
+        let Some((index, first)) = first_chain_of(&self.resolved, name) else {
             let chain = chain_of_frames(alloc, stack, export)?;
             self.resolved.insert(String::from_str(alloc, name)?, chain)?;
             return Ok(());
         };
-        if self.collects_shared {
+        if self.collects_shared && is_re_exported(first) {
             let chain = chain_of_frames(alloc, stack, export)?;
             push_later_chain(alloc, index, chain, &mut self.shadowed)?;
         }
@@ -211,8 +214,8 @@ impl<'a> CollectedExports<'a> {
         ensures resolved { IfOk result
             (λ answer. resolved_export_views answer.resolved.entries ≡ self.entry.collected.names) }
         ensures shared { IfOk result (λ answer. resolved_shared_name_views answer.shared.items
-            ≡ shared_groups is_along_stars self.entry.collected.candidates) }
-        ensures unresolved { IfOk result (λ answer. map unresolved_specifier_view
+            ≡ groups_with_shared_exporters is_along_stars self.entry.collected.candidates) }
+        ensures unresolved { IfOk result (λ answer. map unresolved_star_view
             answer.unresolved_specifiers.items ≡ self.entry.collected.unresolved) }
     {
         let (resolved, shadowed) = (self.resolved, self.shadowed);

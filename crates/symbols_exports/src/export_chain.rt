@@ -7,7 +7,7 @@ ghost use Rattle.symbols_table.specs.Symbols.{symbol_module_id};
 ghost use Rattle.symbols_table.specs.SymbolViews.{symbol_view};
 ghost use Rattle.symbols_exports.specs.ExportSymbols.{symbol_of_export};
 ghost use Rattle.symbols_exports.specs.ExportChains.{resolved_export, chain_first_module};
-ghost use Rattle.symbols_exports.specs.ExportChains.{chain_suffixes, remaining_suffixes};
+ghost use Rattle.symbols_exports.specs.ExportChains.{chain_suffixes, remaining_chain_suffixes};
 
 use std::boxed::Box;
 use symbols_graph::ids::{ModuleId, SymbolId};
@@ -106,7 +106,7 @@ impl<'a> ResolvedExportOrReExportAllPath<'a> {
     /// Returns an iterator over the chain itself, then what remains after each statement, up to the
     /// export (as deno_graph).
     pub fn iter(&self) -> ChainIter<'_, 'a>
-        ensures { remaining_suffixes result ≡ chain_suffixes self.now }
+        ensures { remaining_chain_suffixes result ≡ chain_suffixes self.now }
     {
         ChainIter { rest: Some(self) }
     }
@@ -120,13 +120,13 @@ pub struct ChainIter<'r, 'a> {
 
 impl<'r, 'a> Iterator for ChainIter<'r, 'a> {
     ghost use Rattle.std.specs.Iterator.{YieldsFirstRef, item_count};
-    ghost use Rattle.symbols_exports.specs.ExportChains.{remaining_suffixes};
+    ghost use Rattle.symbols_exports.specs.ExportChains.{remaining_chain_suffixes};
 
     type Item = &'r ResolvedExportOrReExportAllPath<'a>;
 
-    ghost next_gives = { YieldsFirstRef remaining_suffixes };
+    ghost next_gives = { YieldsFirstRef remaining_chain_suffixes };
 
-    ghost remaining = { item_count remaining_suffixes };
+    ghost remaining = { item_count remaining_chain_suffixes };
 
     fn next(&mut self) -> Option<&'r ResolvedExportOrReExportAllPath<'a>> {
         let chain = self.rest?;

@@ -8,13 +8,13 @@ ghost use Rattle.std.specs.List.{list_any};
 ghost use Rattle.indexmap.specs.IndexSet.{insert_key};
 ghost use Rattle.symbols_root.specs.Roots.{specifier_in};
 ghost use Rattle.symbols_root.specs.Growing.{HasGrown};
-ghost use Rattle.symbols_root.specs.Calls.{IsStored, WidestLimitsSuffice};
+ghost use Rattle.symbols_root.specs.Calls.{IsStored, IsOnlyOutOfMemoryByWidestLimits};
 ghost use Rattle.symbols_exports.specs.ExportAnswers.{AreExportListsCorrectAndUnique};
-ghost use Rattle.symbols_exports.specs.ExportAnswers.{IsExportsAnswer, IsExportsFault};
+ghost use Rattle.symbols_exports.specs.ExportAnswers.{IsExportsCallResult, IsExportsCallFault};
 ghost use Rattle.symbols_exports.specs.StarStatements.{star_specifiers};
-ghost use Rattle.symbols_exports.specs.OneName.{IsOneNameAnswer, IsOneNameFault};
+ghost use Rattle.symbols_exports.specs.OneName.{IsExportOfCallResult, IsExportOfCallFault};
 ghost use Rattle.symbols_exports.specs.inner.OneName.{IsExportWalkAnswer, IsExportWalkFault};
-ghost use Rattle.symbols_exports.specs.CollectedNames.{unresolved_specifier_view};
+ghost use Rattle.symbols_exports.specs.CollectedNames.{unresolved_star_view};
 ghost use Rattle.symbols_exports.specs.CollectedNames.{resolved_export_views, resolved_chain_view};
 ghost use Rattle.symbols_exports.specs.CollectedNames.{resolved_shared_name_views};
 ghost use Rattle.symbols_exports.specs.inner.Collecting.{is_same_module, frame_view};
@@ -26,7 +26,7 @@ use crate::export_chain::ResolvedExportOrReExportAllPath;
 use crate::frame::Frame;
 use crate::module_exports::ModuleExports;
 use crate::name_filter::NameFilter;
-use crate::star_statements::{resolve_specifier, unresolved_star_of_trace};
+use crate::star_statements::{resolve_specifier, star_frame_at};
 use indexmap::IndexSet;
 use std::alloc::AllocError;
 use symbols_graph::LookupCounter;
@@ -84,7 +84,7 @@ fn collect_without_stars<'a>(
         (λ answer. IsExportWalkAnswer name_filter.entry root.now root.now module_id
         (resolved_export_views answer.resolved.entries)
         (resolved_shared_name_views answer.shared.items)
-        (map unresolved_specifier_view answer.unresolved_specifiers.items) 0) }
+        (map unresolved_star_view answer.unresolved_specifiers.items) 0) }
 {
     let empty_stack: Vec<Frame<'a>> = Vec::new(root.alloc());
     let mut collected = CollectedExports::new(
@@ -110,11 +110,11 @@ fn walk_stars<'a>(
         × (counter.new.count ≡ counter.old.count + lookups)
         × IsExportWalkAnswer name_filter.entry root.old root.new module_id (resolved_export_views
         answer.resolved.entries) (resolved_shared_name_views answer.shared.items)
-        (map unresolved_specifier_view answer.unresolved_specifiers.items) lookups) }
+        (map unresolved_star_view answer.unresolved_specifiers.items) lookups) }
     ensures faults { IfErr result (λ fault. (lookups : ℕ)
         × (counter.new.count ≡ counter.old.count + lookups)
         × IsExportWalkFault name_filter.entry root.old root.new module_id fault lookups) }
-    ensures enough { WidestLimitsSuffice root.old result }
+    ensures enough { IsOnlyOutOfMemoryByWidestLimits root.old result }
 {
     let mut visited = IndexSet::new(root.alloc());
     visited.insert(module_id)?;
@@ -129,7 +129,7 @@ fn walk_stars<'a>(
     let mut next = 0;
     'walk: while !collected.is_name_search_done(name_filter) {
         stored_modules_distinct(root);
-        if let Some(frame) = unresolved_star_of_trace(root, here, next) {
+        if let Some(frame) = star_frame_at(root, here, next) {
             match resolve_specifier(root, here, frame.specifier_text, counter) {
                 Err(fault) => return Err(fault),
                 Ok(None) => {
@@ -176,16 +176,16 @@ fn walk_exports<'a>(
         × (counter.new.count ≡ counter.old.count + lookups)
         × IsExportWalkAnswer name_filter.entry root.old root.new module_id (resolved_export_views
         answer.resolved.entries) (resolved_shared_name_views answer.shared.items)
-        (map unresolved_specifier_view answer.unresolved_specifiers.items) lookups) }
+        (map unresolved_star_view answer.unresolved_specifiers.items) lookups) }
     ensures faults { IfErr result (λ fault. (lookups : ℕ)
         × (counter.new.count ≡ counter.old.count + lookups)
         × IsExportWalkFault name_filter.entry root.old root.new module_id fault lookups) }
-    ensures enough { IsStored root.old module_id → WidestLimitsSuffice root.old result }
+    ensures enough { IsStored root.old module_id → IsOnlyOutOfMemoryByWidestLimits root.old result }
 {
     if root.module_from_id(module_id).is_none() {
         return Err(SymbolsFault::UnknownModule);
     }
-    match unresolved_star_of_trace(root, module_id, 0) {
+    match star_frame_at(root, module_id, 0) {
         Some(_) => walk_stars(root, module_id, name_filter, counter),
         None => Ok(collect_without_stars(root, module_id, name_filter)?),
     }
@@ -208,15 +208,15 @@ pub fn exports_counted<'a>(
     requires room { counter.old.count < 2 ^ 64 }
     ensures answers { IfOk result (λ answer. (lookups : ℕ)
         × (counter.new.count ≡ counter.old.count + lookups)
-        × IsExportsAnswer root.old root.new module_id
+        × IsExportsCallResult root.old root.new module_id
         (resolved_export_views answer.resolved.entries) (resolved_shared_name_views
         answer.shared.items)
-        (map unresolved_specifier_view answer.unresolved_specifiers.items) lookups) }
+        (map unresolved_star_view answer.unresolved_specifiers.items) lookups) }
     ensures faults { IfErr result (λ fault. (lookups : ℕ) × (counter.new.count
-        ≡ counter.old.count + lookups) × IsExportsFault root.old root.new module_id fault lookups) }
+        ≡ counter.old.count + lookups) × IsExportsCallFault root.old root.new module_id fault lookups) }
     ensures listed { (start : List ℕ) → AreExportListsCorrectAndUnique root.old.graph start }
     ensures grown { HasGrown root.old root.new }
-    ensures enough { IsStored root.old module_id → WidestLimitsSuffice root.old result }
+    ensures enough { IsStored root.old module_id → IsOnlyOutOfMemoryByWidestLimits root.old result }
 {
     walk_exports(root, module_id, NameFilter::AllNames, counter)
 }
@@ -234,16 +234,16 @@ pub fn exports<'a>(
     module_id: ModuleId,
 ) -> Result<ModuleExports<'a>, SymbolsFault>
     ensures answers { IfOk result (λ answer. (lookups : ℕ)
-        × IsExportsAnswer root.old root.new module_id
+        × IsExportsCallResult root.old root.new module_id
         (resolved_export_views answer.resolved.entries)
         (resolved_shared_name_views answer.shared.items)
-        (map unresolved_specifier_view answer.unresolved_specifiers.items)
+        (map unresolved_star_view answer.unresolved_specifiers.items)
         lookups) }
     ensures faults { IfErr result (λ fault. (lookups : ℕ)
-        × IsExportsFault root.old root.new module_id fault lookups) }
+        × IsExportsCallFault root.old root.new module_id fault lookups) }
     ensures listed { (start : List ℕ) → AreExportListsCorrectAndUnique root.old.graph start }
     ensures grown { HasGrown root.old root.new }
-    ensures enough { IsStored root.old module_id → WidestLimitsSuffice root.old result }
+    ensures enough { IsStored root.old module_id → IsOnlyOutOfMemoryByWidestLimits root.old result }
 {
     exports_counted(root, module_id, &mut LookupCounter::new())
 }
@@ -269,14 +269,14 @@ pub fn export_of_counted<'a>(
     requires room { counter.old.count < 2 ^ 64 }
     ensures answers { IfOk result (λ chain. (lookups : ℕ)
         × (counter.new.count ≡ counter.old.count + lookups)
-        × IsOneNameAnswer root.old root.new module_id name.now (option_to_list
+        × IsExportOfCallResult root.old root.new module_id name.now (option_to_list
         (option_map (resolved_chain_view name.now) chain)) lookups) }
     ensures faults { IfErr result (λ fault. (lookups : ℕ)
         × (counter.new.count ≡ counter.old.count + lookups)
-        × IsOneNameFault root.old root.new module_id name.now fault lookups) }
+        × IsExportOfCallFault root.old root.new module_id name.now fault lookups) }
     ensures listed { (start : List ℕ) → AreExportListsCorrectAndUnique root.old.graph start }
     ensures grown { HasGrown root.old root.new }
-    ensures enough { IsStored root.old module_id → WidestLimitsSuffice root.old result }
+    ensures enough { IsStored root.old module_id → IsOnlyOutOfMemoryByWidestLimits root.old result }
 {
     let mut answer = walk_exports(root, module_id, NameFilter::OneName(name), counter)?;
     match answer.resolved.pop() {
@@ -298,13 +298,13 @@ pub fn export_of<'a>(
     name: &str,
 ) -> Result<Option<ResolvedExportOrReExportAllPath<'a>>, SymbolsFault>
     ensures answers { IfOk result (λ chain. (lookups : ℕ)
-        × IsOneNameAnswer root.old root.new module_id name.now
+        × IsExportOfCallResult root.old root.new module_id name.now
         (option_to_list (option_map (resolved_chain_view name.now) chain)) lookups) }
     ensures faults { IfErr result (λ fault. (lookups : ℕ)
-        × IsOneNameFault root.old root.new module_id name.now fault lookups) }
+        × IsExportOfCallFault root.old root.new module_id name.now fault lookups) }
     ensures listed { (start : List ℕ) → AreExportListsCorrectAndUnique root.old.graph start }
     ensures grown { HasGrown root.old root.new }
-    ensures enough { IsStored root.old module_id → WidestLimitsSuffice root.old result }
+    ensures enough { IsStored root.old module_id → IsOnlyOutOfMemoryByWidestLimits root.old result }
 {
     export_of_counted(root, module_id, name, &mut LookupCounter::new())
 }

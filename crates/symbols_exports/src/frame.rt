@@ -1,7 +1,7 @@
 //! A frame of the walk: an `export *` statement that it is at or has followed.
 
 ghost use Rattle.std.specs.Prelude.{◌≡◌};
-ghost use Rattle.symbols_exports.specs.CollectedNames.{unresolved_specifier_view};
+ghost use Rattle.symbols_exports.specs.CollectedNames.{unresolved_star_view};
 ghost use Rattle.symbols_exports.specs.inner.Collecting.{frame_view};
 
 use crate::module_exports::UnresolvedSpecifier;
@@ -19,7 +19,7 @@ pub(crate) struct Frame<'a> {
 impl<'a> Frame<'a> {
     /// Returns the statement as one that resolves to no module.
     pub(crate) fn unresolved(self) -> UnresolvedSpecifier<'a>
-        ensures { unresolved_specifier_view result ≡ frame_view self.entry }
+        ensures { unresolved_star_view result ≡ frame_view self.entry }
     {
         UnresolvedSpecifier {
             referrer: self.referrer,

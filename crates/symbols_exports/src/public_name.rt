@@ -4,14 +4,14 @@ ghost use Rattle.std.specs.Prelude.{◌≡◌, ◌≢◌, ◌++◌, ◌∷◌, [
 ghost use Rattle.std.specs.Prelude.{AllPairs, Some, IfOk, IfErr, OnOk, if◌then◌else◌};
 ghost use Rattle.symbols_root.specs.Roots.{specifier_in};
 ghost use Rattle.symbols_root.specs.Growing.{HasGrown};
-ghost use Rattle.symbols_root.specs.Calls.{IsStored, WidestLimitsSuffice};
+ghost use Rattle.symbols_root.specs.Calls.{IsStored, IsOnlyOutOfMemoryByWidestLimits};
 ghost use Rattle.symbols_exports.specs.ExportAnswers.{AreExportListsCorrectAndUnique};
-ghost use Rattle.symbols_exports.specs.ExportAnswers.{IsExportsFault};
+ghost use Rattle.symbols_exports.specs.ExportAnswers.{IsExportsCallFault};
 ghost use Rattle.symbols_exports.specs.PublicNames.{public_name_view};
 ghost use Rattle.symbols_exports.specs.PublicNames.{is_constructor_or_index_signature};
 ghost use Rattle.symbols_exports.specs.PublicNames.{exports_of_symbol};
-ghost use Rattle.symbols_exports.specs.PublicNames.{member_name_views, name_with_members};
-ghost use Rattle.symbols_exports.specs.PublicNames.{IsPublicNamesAnswer};
+ghost use Rattle.symbols_exports.specs.PublicNames.{public_names_of_members, public_names_with_members};
+ghost use Rattle.symbols_exports.specs.PublicNames.{IsPublicNamesCallResult};
 ghost use Rattle.symbols_exports.specs.inner.PublicNames.{public_names_of_export, IsExplicitExport};
 ghost use Rattle.symbols_exports.specs.CollectedNames.{ResolvedExportView, resolved_export_views};
 
@@ -89,7 +89,7 @@ fn add_members(
     names: &mut Vec<PublicName>,
 ) -> Result<(), AllocError>
     ensures { OnOk result (map public_name_view names.new.items
-        ≡ map public_name_view names.old.items ++ member_name_views name.now members.entry) }
+        ≡ map public_name_view names.old.items ++ public_names_of_members name.now members.entry) }
 {
     for (member, _) in members {
         add_member(alloc, name, member, names)?;
@@ -107,7 +107,7 @@ fn add_name(
     requires { IsExplicitExport root.now export.now }
     ensures { OnOk result
         (map public_name_view names.new.items ≡ map public_name_view names.old.items
-        ++ name_with_members name.now (exports_of_symbol root.now.graph
+        ++ public_names_with_members name.now (exports_of_symbol root.now.graph
         (specifier_in root.now export.now.«module») export.now.symbol_id)) }
 {
     names.push(PublicName {
@@ -147,14 +147,14 @@ pub fn public_names(
     module_id: ModuleId,
 ) -> Result<Vec<PublicName>, SymbolsFault>
     ensures answers { IfOk result
-        (λ names. IsPublicNamesAnswer root.old root.new module_id
+        (λ names. IsPublicNamesCallResult root.old root.new module_id
         (map public_name_view names.items)) }
     ensures once { IfOk result (λ names. AllPairs (λ x y. x ≢ y) (map public_name_view names.items)) }
     ensures faults { IfErr result (λ fault. (lookups : ℕ)
-        × IsExportsFault root.old root.new module_id fault lookups) }
+        × IsExportsCallFault root.old root.new module_id fault lookups) }
     ensures listed { (start : List ℕ) → AreExportListsCorrectAndUnique root.old.graph start }
     ensures grown { HasGrown root.old root.new }
-    ensures enough { IsStored root.old module_id → WidestLimitsSuffice root.old result }
+    ensures enough { IsStored root.old module_id → IsOnlyOutOfMemoryByWidestLimits root.old result }
 {
     let found = exports(root, module_id)?;
     Ok(list_names(root, &found.resolved)?)

@@ -3,8 +3,8 @@
 ghost use Rattle.std.specs.Prelude.{◌≡◌, ◌<◌, ◌≤◌, ◌∷◌, IfOk, OnOk, List, ℕ, length, map};
 ghost use Rattle.std.specs.Prelude.{string_bytes};
 ghost use Rattle.symbols_exports.specs.ExportChains.{resolved_export, statements_of_chain};
-ghost use Rattle.symbols_exports.specs.SharedNameLists.{is_shared_group, shared_groups};
-ghost use Rattle.symbols_exports.specs.inner.Sharing.{is_along_stars};
+ghost use Rattle.symbols_exports.specs.SharedNameLists.{has_shared_exporters, groups_with_shared_exporters};
+ghost use Rattle.symbols_exports.specs.inner.Collecting.{is_along_stars};
 ghost use Rattle.symbols_exports.specs.CollectedNames.{resolved_export_view, resolved_chain_view};
 ghost use Rattle.symbols_exports.specs.CollectedNames.{resolved_shared_name_view};
 ghost use Rattle.symbols_exports.specs.CollectedNames.{resolved_shared_name_views};
@@ -19,7 +19,7 @@ use indexmap::IndexMap;
 use std::alloc::{AllocError, Global};
 use std::hash::RandomState;
 
-/// The later chains of each collected name, by the index of the name.
+/// The later chains of each collected name that a module re-exports, by the index of the name.
 pub(crate) type LaterChains<'a> = Vec<Vec<ResolvedExportOrReExportAllPath<'a>>>;
 
 /// Adds empty lists until there is one at an index.
@@ -79,6 +79,13 @@ fn copied_chain<'a>(
     chain_of_frames(alloc, &frames, *chain.as_resolved_export())
 }
 
+/// Returns whether a chain has an `export *` statement.
+pub(crate) fn is_re_exported(chain: &ResolvedExportOrReExportAllPath<'_>) -> bool
+    ensures { (name : List ℕ) → result ≡ is_along_stars (resolved_chain_view name chain.now) }
+{
+    matches!(chain, ResolvedExportOrReExportAllPath::ReExportAllPath(_))
+}
+
 /// Returns whether a name is shared: it has a later chain, and its first chain has at least one
 /// `export *` statement, so that the queried module itself doesn't export it.
 fn is_shared_name(
@@ -86,7 +93,7 @@ fn is_shared_name(
     shadowed: &[ResolvedExportOrReExportAllPath<'_>],
 ) -> bool
     ensures { (name : List ℕ)
-        → result ≡ is_shared_group is_along_stars (resolved_chain_view name first.now
+        → result ≡ has_shared_exporters is_along_stars (resolved_chain_view name first.now
         ∷ map (resolved_chain_view name) shadowed.now) }
 {
     match first {
@@ -124,7 +131,7 @@ pub(crate) fn shared_names<'a>(
 ) -> Result<Vec<SharedName<'a>>, AllocError>
     requires few { length shadowed.items ≤ length resolved.now.entries }
     ensures { IfOk result (λ shared. resolved_shared_name_views shared.items
-        ≡ shared_groups is_along_stars (shared_groups_of resolved.now.entries
+        ≡ groups_with_shared_exporters is_along_stars (shared_groups_of resolved.now.entries
         (chain_lists_view shadowed.entry.items))) }
 {
     let mut shared = Vec::new(alloc);

@@ -9,7 +9,7 @@ ghost use Rattle.symbols_ast.specs.Graph.{ModuleView};
 ghost use Rattle.symbols_root.specs.Specifiers.{module_with_specifier};
 ghost use Rattle.symbols_root.specs.Roots.{with_stored_module, maybe_specifier, IsStoringFault};
 ghost use Rattle.symbols_root.specs.Roots.{specifier_in};
-ghost use Rattle.symbols_root.specs.Calls.{IsStored, KeepsStored};
+ghost use Rattle.symbols_root.specs.Calls.{IsStored, HasGrownAndFailsOnlyFor};
 ghost use Rattle.symbols_exports.specs.StarStatements.{star_specifiers, resolve_specifier};
 ghost use Rattle.symbols_exports.specs.StarStatements.{explicit_exports_of};
 
@@ -21,7 +21,7 @@ use symbols_table::decl::Exports;
 use symbols_table::info::SymbolsFault;
 
 /// Returns the `export *` statement at an index of a stored module, or `None` if there is none.
-pub(crate) fn unresolved_star_of_trace<'a>(
+pub(crate) fn star_frame_at<'a>(
     root: &RootSymbol<'a>,
     referrer: ModuleId,
     position: usize,
@@ -83,7 +83,7 @@ pub(crate) fn resolve_specifier(
 ) -> Result<Option<ModuleId>, SymbolsFault>
     requires known { IsStored root.old referrer }
     requires room { counter.old.count + 1 < 2 ^ 128 }
-    ensures keeps { KeepsStored root.old root.new (IsStoringFault root.old (resolve_specifier root.old.graph
+    ensures keeps { HasGrownAndFailsOnlyFor root.old root.new (IsStoringFault root.old (resolve_specifier root.old.graph
         (specifier_in root.old referrer) specifier_text.now)) result }
     ensures gives { IfOk result (λ id. option_map (maybe_specifier root.new) id
         ≡ option_map (λ s. Some s) (resolve_specifier root.old.graph

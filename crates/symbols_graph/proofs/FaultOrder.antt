@@ -3,7 +3,7 @@ use Rattle.std.proofs.Common.{◌≡◌, ℕ, zero, suc, ◌+◌, ◌*◌, ◌^�
 use Rattle.std.proofs.lemmas.Option.{slice_get_within}
 use Rattle.symbols_ast.specs.declared.tree.arena.Node.{Node}
 use Rattle.symbols_ast.specs.declared.graph.faults.TreeFault.TheVariants.{NoProgram, TooManyNodes, BadChild, SharedChild, BadRange, BadShape, TooDeep}
-use Rattle.symbols_ast.specs.Shapes.{has_bad_shape}
+use Rattle.symbols_ast.specs.Shapes.{has_misplaced_child_or_breaks_rule}
 use Rattle.symbols_ast.specs.TreeFaults.{begins_with_program, HasBadChild, HasSharedChild, HasBadRange, IsTooDeep, HasNoTreeFaultBelowRank, IsFaultlessTree}
 use Rattle.symbols_graph.proofs.NodeLemmas.{inside_where_child, inside_where_bad_shape}
 
@@ -12,7 +12,7 @@ abbrev pub IsFaultAt : List ℕ → List Node → ℕ → ℕ → Type 0
 IsFaultAt text nodes n zero = HasBadChild nodes n
 IsFaultAt text nodes n (suc zero) = HasSharedChild nodes n
 IsFaultAt text nodes n (suc (suc zero)) = HasBadRange text nodes n
-IsFaultAt text nodes n (suc (suc (suc zero))) = has_bad_shape nodes n ≡ true
+IsFaultAt text nodes n (suc (suc (suc zero))) = has_misplaced_child_or_breaks_rule nodes n ≡ true
 IsFaultAt text nodes n (suc (suc (suc (suc _)))) = IsTooDeep nodes n
 
 module _ (text : List ℕ) (nodes : List Node) where

@@ -20,9 +20,9 @@ well_formed_where_faultless text nodes none = record {
   begins = is_true _ (none NoProgram);
   few = let some : 2 ^ 32 ≤ length nodes → ⊥ = none TooManyNodes in omega arith;
   ordered = λ m c _ child. child_order nodes m c (none (BadChild m)) child;
-  alone = λ m q c _ _ child child'.
+  has_one_parent = λ m q c _ _ child child'.
       let not_below : m < q → ⊥ = λ lower. no_lower_parent nodes m q c (none (SharedChild q)) lower child child' in
       let not_ancestor : q < m → ⊥ = λ lower. no_lower_parent nodes q m c (none (SharedChild m)) lower child' child in
       omega arith;
-  shaped = λ n. is_false _ (none (BadShape n));
+  is_well_shaped = λ n. is_false _ (none (BadShape n));
 }

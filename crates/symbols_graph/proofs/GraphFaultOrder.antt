@@ -7,16 +7,16 @@ use Rattle.symbols_ast.specs.declared.graph.faults.GraphFault.TheVariants as fau
 use Rattle.symbols_ast.specs.Graph.{GraphView}
 use Rattle.symbols_graph.specs.GraphFaults.{module_specifiers, redirect_sources, resolution_keys, IsRedirectToRedirect}
 use Rattle.symbols_graph.specs.GraphFaults.{IsTreeFaultAt, IsFaultAt, graph_fault_rank, IsFaultlessGraph, IsFirstGraphFault}
-use Rattle.symbols_graph.specs.Repeats.{IsRepeatAt}
+use Rattle.symbols_graph.specs.Repeats.{IsRepeatedEntryAt}
 use Rattle.symbols_graph.specs.inner.CheckSteps.{HasNoGraphFaultOfRank, IsFirstGraphFaultOfRank}
 
 -- The condition of a fault of this rank at entry i.
 abbrev pub AtRank : GraphView → ℕ → ℕ → Type 0
 AtRank graph zero i = 2 ^ 32 ≤ length graph.modules
-AtRank graph (suc zero) i = (x : List ℕ) × IsRepeatAt (module_specifiers graph.modules) i x
-AtRank graph (suc (suc zero)) i = (x : List ℕ) × IsRepeatAt (redirect_sources graph.redirects) i x
+AtRank graph (suc zero) i = (x : List ℕ) × IsRepeatedEntryAt (module_specifiers graph.modules) i x
+AtRank graph (suc (suc zero)) i = (x : List ℕ) × IsRepeatedEntryAt (redirect_sources graph.redirects) i x
 AtRank graph (suc (suc (suc zero))) i = (x : List ℕ) × IsRedirectToRedirect graph.redirects i x
-AtRank graph (suc (suc (suc (suc zero)))) i = (x : List ℕ × List ℕ) × IsRepeatAt (resolution_keys graph.resolutions) i x
+AtRank graph (suc (suc (suc (suc zero)))) i = (x : List ℕ × List ℕ) × IsRepeatedEntryAt (resolution_keys graph.resolutions) i x
 AtRank graph (suc (suc (suc (suc (suc _))))) i = (x : List ℕ × TreeFault) × IsTreeFaultAt graph.modules i x
 
 at_rank : (graph : GraphView) (i : ℕ) (f : GraphFault) → IsFaultAt graph i f → AtRank graph (graph_fault_rank f) i

@@ -10,17 +10,17 @@ use Rattle.std.specs.String.{string_eq}
 use Rattle.std.proofs.lemmas.List.Folds.{find-append}
 use Rattle.std.proofs.lemmas.Slice.Eq.{bytes_eq-Decides}
 use Rattle.symbols_ast.specs.Graph.{ModuleView, Resolution, find_resolved_specifier, module_after_redirect}
-use Rattle.symbols_graph.specs.Tables.{StringMap, resolutions_of_referrer, flat_resolutions, string_pairs_view}
+use Rattle.symbols_graph.specs.Tables.{StringMap, resolutions_of_referrer, resolutions_of_map_entries, string_pairs_bytes}
 use Rattle.symbols_graph.specs.inner.Tables.{AreKeyedBySpecifier}
 
 -- A lookup of a redirect's target in the map is one in the list.
-pub lookup-string_pairs_view : (s : List ℕ) (es : List (String Global × String Global))
-    → lookup (bytes_eq s) (string_pairs_view es) ≡ option_map string_bytes (lookup (λ k. bytes_eq s (string_bytes k)) es)
-lookup-string_pairs_view s [] = refl
-lookup-string_pairs_view s (e ∷ es) = by (bytes_eq s (string_bytes e.0)) (lookup-string_pairs_view s es)
+pub lookup-string_pairs_bytes : (s : List ℕ) (es : List (String Global × String Global))
+    → lookup (bytes_eq s) (string_pairs_bytes es) ≡ option_map string_bytes (lookup (λ k. bytes_eq s (string_bytes k)) es)
+lookup-string_pairs_bytes s [] = refl
+lookup-string_pairs_bytes s (e ∷ es) = by (bytes_eq s (string_bytes e.0)) (lookup-string_pairs_bytes s es)
   where
-    by : (b : Bool) → lookup (bytes_eq s) (string_pairs_view es) ≡ option_map string_bytes (lookup (λ k. bytes_eq s (string_bytes k)) es)
-        → cond b (Some (string_bytes e.1)) (lookup (bytes_eq s) (string_pairs_view es))
+    by : (b : Bool) → lookup (bytes_eq s) (string_pairs_bytes es) ≡ option_map string_bytes (lookup (λ k. bytes_eq s (string_bytes k)) es)
+        → cond b (Some (string_bytes e.1)) (lookup (bytes_eq s) (string_pairs_bytes es))
         ≡ option_map string_bytes (cond b (Some e.1) (lookup (λ k. bytes_eq s (string_bytes k)) es))
     by true rest = refl
     by false rest = rest
@@ -37,10 +37,10 @@ find-keyed s (e ∷ es) keyed =
 pub module_found : (modules : List (String Global × ModuleView)) (redirects : List (String Global × String Global)) (resolutions : List Resolution)
     → AreKeyedBySpecifier modules → (s name : List ℕ) → unwrap_or (option_map string_bytes (lookup (λ k. bytes_eq s (string_bytes k)) redirects)) s ≡ name
     → lookup (λ k. bytes_eq name (string_bytes k)) modules
-    ≡ module_after_redirect (record { modules = map (λ e. e.1) modules; redirects = string_pairs_view redirects; resolutions = resolutions }) s
+    ≡ module_after_redirect (record { modules = map (λ e. e.1) modules; redirects = string_pairs_bytes redirects; resolutions = resolutions }) s
 module_found modules redirects resolutions keyed s name is =
     sym (find-keyed name modules keyed) ∙ sym (ap (λ n. find (λ m. bytes_eq n m.specifier) (map (λ e. e.1) modules))
-    (ap (λ o. unwrap_or o s) (lookup-string_pairs_view s redirects) ∙ is))
+    (ap (λ o. unwrap_or o s) (lookup-string_pairs_bytes s redirects) ∙ is))
 
 module _ (r t : List ℕ) where
   -- The resolution has the queried referrer and specifier text.
@@ -72,10 +72,11 @@ module _ (r t : List ℕ) where
 
   -- If all remaining referrers are others, their entries have no match.
   none_there : (k : String Global) → bytes_eq r (string_bytes k) ≡ true → (es : List (String Global × StringMap (String Global)))
-      → AllByRecursion (λ y. string_eq k y ≡ false) (keys_of es) → find predicate (flat_resolutions es) ≡ None
+      → AllByRecursion (λ y. string_eq k y ≡ false) (keys_of es) → find predicate (resolutions_of_map_entries es) ≡ None
   none_there k is [] other_items = refl
   none_there k is (e ∷ es) other_items =
-      find-append predicate (resolutions_of_referrer e) (flat_resolutions es) ∙ ap (λ o. option_or o (find predicate (flat_resolutions es))) (none_here e.0
+      find-append predicate (resolutions_of_referrer e) (resolutions_of_map_entries es) ∙ ap (λ o. option_or o (find predicate (resolutions_of_map_entries es)))
+      (none_here e.0
       (ap (λ s. bytes_eq s (string_bytes e.0)) ((bytes_eq-Decides r (string_bytes k)).0 is) ∙ other_items.0) e.1.entries) ∙ none_there k is es other_items.1
 
   -- The value of the specifier text in an optional map.
@@ -84,23 +85,24 @@ module _ (r t : List ℕ) where
 
   -- The lookup in the maps gives the result of the search in the list.
   pub rows_found : (es : List (String Global × StringMap (String Global))) → IsDistinct string_eq (keys_of es)
-      → inside (lookup (λ s. bytes_eq r (string_bytes s)) es) ≡ find_resolved_specifier (flat_resolutions es) r t
+      → inside (lookup (λ s. bytes_eq r (string_bytes s)) es) ≡ find_resolved_specifier (resolutions_of_map_entries es) r t
   unfolding IsDistinct
   rows_found [] distinct = refl
   rows_found (e ∷ es) distinct =
       by (bytes_eq r (string_bytes e.0)) refl (rows_found es distinct.1)
-      ∙ sym (ap (option_map (λ (z : Resolution). z.specifier)) (find-append predicate (resolutions_of_referrer e) (flat_resolutions es)))
+      ∙ sym (ap (option_map (λ (z : Resolution). z.specifier)) (find-append predicate (resolutions_of_referrer e) (resolutions_of_map_entries es)))
     where
       or_none : {A : Type 0} (o : Option A) → option_or o None ≡ o
       or_none None = refl
       or_none (Some a) = refl
 
       by : (b : Bool) → bytes_eq r (string_bytes e.0) ≡ b
-          → inside (lookup (λ s. bytes_eq r (string_bytes s)) es) ≡ find_resolved_specifier (flat_resolutions es) r t
+          → inside (lookup (λ s. bytes_eq r (string_bytes s)) es) ≡ find_resolved_specifier (resolutions_of_map_entries es) r t
           → inside (cond b (Some e.1) (lookup (λ s. bytes_eq r (string_bytes s)) es))
-          ≡ option_map (λ (z : Resolution). z.specifier) (option_or (find predicate (resolutions_of_referrer e)) (find predicate (flat_resolutions es)))
+          ≡ option_map (λ (z : Resolution). z.specifier) (option_or (find predicate (resolutions_of_referrer e))
+          (find predicate (resolutions_of_map_entries es)))
       by true is rest = sym (ap (λ o. option_map (λ (z : Resolution). z.specifier) (option_or (find predicate (resolutions_of_referrer e)) o)) (none_there e.0
           is es distinct.0) ∙ ap (option_map (λ (z : Resolution). z.specifier)) (or_none (find predicate (resolutions_of_referrer e)))
           ∙ found_here e.0 is e.1.entries)
-      by false is rest = rest ∙ sym (ap (λ o. option_map (λ (z : Resolution). z.specifier) (option_or o (find predicate (flat_resolutions es))))
+      by false is rest = rest ∙ sym (ap (λ o. option_map (λ (z : Resolution). z.specifier) (option_or o (find predicate (resolutions_of_map_entries es))))
           (none_here e.0 is e.1.entries))

@@ -9,7 +9,7 @@ use Rattle.symbols_ast.specs.declared.tree.field.Field.{Field}
 use Rattle.symbols_ast.specs.FieldViews.{field_view, field_views}
 use Rattle.symbols_ast.specs.Fields.{fields}
 use Rattle.symbols_ast.specs.Nodes.{children, child_numbers}
-use Rattle.symbols_ast.specs.Shapes.{has_misplaced_child, breaks_kind_rule, has_bad_shape}
+use Rattle.symbols_ast.specs.Shapes.{has_misplaced_child, breaks_rule_of_its_kind, has_misplaced_child_or_breaks_rule}
 use Rattle.symbols_graph.proofs.FieldLists.{flat_map_present}
 
 -- The children in a node's fields are the children of the node.
@@ -35,10 +35,11 @@ inside_where_child nodes n i below =
     omega arith
 
 -- Only a node of the tree has a bad shape.
-pub inside_where_bad_shape : (nodes : List Node) (n : ℕ) → has_bad_shape nodes n ≡ true → n < length nodes
-unfolding has_bad_shape
+pub inside_where_bad_shape : (nodes : List Node) (n : ℕ) → has_misplaced_child_or_breaks_rule nodes n ≡ true → n < length nodes
+unfolding has_misplaced_child_or_breaks_rule
 inside_where_bad_shape nodes n bad =
-    let past : length nodes ≤ n → ⊥ = λ p. let none : has_bad_shape nodes n ≡ false = ap (λ o.
-    option_map_or (λ kind. has_misplaced_child nodes kind || breaks_kind_rule nodes kind) (option_map (λ x. x.kind) o) false) (slice_get_past nodes n p) in cc
+    let past : length nodes ≤ n → ⊥ = λ p. let none : has_misplaced_child_or_breaks_rule nodes n ≡ false = ap (λ o.
+    option_map_or (λ kind. has_misplaced_child nodes kind || breaks_rule_of_its_kind nodes kind)
+    (option_map (λ x. x.kind) o) false) (slice_get_past nodes n p) in cc
     in
     omega arith

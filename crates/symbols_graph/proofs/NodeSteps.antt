@@ -5,7 +5,7 @@ use Rattle.std.proofs.lemmas.List.Elements.{All-from_get_or}
 use Rattle.std.proofs.lemmas.Option.{slice_get-get_or, get_or_from_slice_get}
 use Rattle.symbols_ast.specs.declared.tree.arena.Node.{Node}
 use Rattle.symbols_ast.specs.Nodes.{children}
-use Rattle.symbols_ast.specs.Shapes.{has_bad_shape}
+use Rattle.symbols_ast.specs.Shapes.{has_misplaced_child_or_breaks_rule}
 use Rattle.symbols_ast.specs.TreeFaults.{IsBadChild, HasBadChild, HasSharedChild, IsRangeInText, HasBadRange, IsTooDeep, HasNoTreeFaultBelowRank}
 use Rattle.symbols_graph.specs.inner.Depths.{AreDepthsAfterCheckedNodes, IsSharedChildByDepths}
 use Rattle.symbols_graph.proofs.DepthLemmas.{child_is_there, shared_child_occurs, occurs_as_shared, too_deep_is_over}
@@ -57,11 +57,11 @@ module _ (text : List ℕ) (nodes : List Node) (n : ℕ) (clear : HasNoTreeFault
         clear_of_range = none_before_next text nodes n 2 (5 * n + 4) (omega arith) (omega arith) clear_of_shared (has_good_range text nodes n node good)
             (5 * n + 5) (omega arith)
 
-        pub clear_of_shape : false ≡ has_bad_shape nodes n → HasNoTreeFaultBelowRank text nodes (5 * n + 6)
+        pub clear_of_shape : false ≡ has_misplaced_child_or_breaks_rule nodes n → HasNoTreeFaultBelowRank text nodes (5 * n + 6)
         clear_of_shape shape = none_before_next text nodes n 3 (5 * n + 5) (omega arith) (omega arith) clear_of_range (λ h. let e : false ≡ true = shape
             ∙ h in cc) (5 * n + 6) (omega arith)
 
-        pub clear_of_all : false ≡ has_bad_shape nodes n → get_or depths n 0 ≤ 4096 → HasNoTreeFaultBelowRank text nodes (5 * (n + 1) + 2)
+        pub clear_of_all : false ≡ has_misplaced_child_or_breaks_rule nodes n → get_or depths n 0 ≤ 4096 → HasNoTreeFaultBelowRank text nodes (5 * (n + 1) + 2)
         clear_of_all shape low =
             let fine : IsTooDeep nodes n → ⊥ = λ h. omega (arith, too_deep_is_over text nodes n depths clear deep room h) in
             none_before_next text nodes n 4 (5 * n + 6) (omega arith) (omega arith) (clear_of_shape shape) fine (5 * (n + 1) + 2) (omega arith)

@@ -12,9 +12,10 @@ use Rattle.symbols_ast.specs.declared.graph.faults.GraphFault.TheVariants as fau
 use Rattle.symbols_ast.specs.Graph.{GraphView, ModuleView, Resolution}
 use Rattle.symbols_graph.specs.GraphFaults.{IsFaultAt, IsFaultTriedBefore, IsFaultlessGraph, IsFirstGraphFault, graph_fault_rank}
 use Rattle.symbols_graph.specs.GraphFaults.{module_specifiers, resolution_keys}
-use Rattle.symbols_graph.specs.PutModules.{modules_with, resolution_in, is_of_other_referrer, with_module, IsPutFaultAt, IsFaultlessPut, IsFirstPutFault}
+use Rattle.symbols_graph.specs.PutModules.{modules_with_put_module, resolution_with_referrer, is_resolution_of_other_referrer, graph_with_put_module}
+use Rattle.symbols_graph.specs.PutModules.{IsPutFaultAt, IsFaultlessPut, IsFirstPutFault}
 use Rattle.symbols_graph.specs.PutModules.{IsSameGraph}
-use Rattle.symbols_graph.specs.Repeats.{IsRepeatAt}
+use Rattle.symbols_graph.specs.Repeats.{IsRepeatedEntryAt}
 use Rattle.symbols_graph.proofs.PutModules.{resolved_with}
 
 -- ---- lists in which an entry isn't repeated
@@ -25,7 +26,7 @@ Occurs xs x = (j : ℕ) × (slice_get xs j ≡ Some x)
 
 -- No entry that is x repeats an earlier one.
 abbrev HasNoRepeatOf : {A : Type 0} → List A → A → Type 0
-HasNoRepeatOf xs x = (i : ℕ) → IsRepeatAt xs i x → ⊥
+HasNoRepeatOf xs x = (i : ℕ) → IsRepeatedEntryAt xs i x → ⊥
 
 none_in_tail : {A : Type 0} (y : A) (xs : List A) (x : A) → HasNoRepeatOf (y ∷ xs) x → HasNoRepeatOf xs x
 none_in_tail y xs x none i repeat = none (suc i) (repeat.0, (suc repeat.1.0, omega (arith, repeat.1.1), repeat.1.2))
@@ -51,8 +52,8 @@ occurs_in_either (y ∷ xs) ys x (suc j, is) = elim (occurs_in_either xs ys x (j
 ]
 
 -- If the first list has no repeat of an entry, and not both have it, a repeat is one in the second.
-repeat_in_second : {A : Type 0} (xs ys : List A) (x : A) → HasNoRepeatOf xs x → (Occurs xs x → Occurs ys x → ⊥) → (i : ℕ) → IsRepeatAt (xs ++ ys) i x
-    → (k : ℕ) × (i ≡ length xs + k) × IsRepeatAt ys k x
+repeat_in_second : {A : Type 0} (xs ys : List A) (x : A) → HasNoRepeatOf xs x → (Occurs xs x → Occurs ys x → ⊥) → (i : ℕ) → IsRepeatedEntryAt (xs ++ ys) i x
+    → (k : ℕ) × (i ≡ length xs + k) × IsRepeatedEntryAt ys k x
 repeat_in_second [] ys x none apart i repeat = (i, omega arith, repeat)
 repeat_in_second (y ∷ xs) ys x none apart zero repeat = absurd (omega (arith, repeat.1.1))
 repeat_in_second {A} (y ∷ xs) ys x none apart (suc i) repeat =
@@ -60,8 +61,8 @@ repeat_in_second {A} (y ∷ xs) ys x none apart (suc i) repeat =
     (λ later. repeat_in_second xs ys x (none_in_tail y xs x none) (λ a b. apart (suc a.0, a.1) b) i later)
   where
     by : (j : ℕ) → j < suc i → slice_get (y ∷ xs ++ ys) j ≡ Some x
-        → (IsRepeatAt (xs ++ ys) i x → (k : ℕ) × (i ≡ length xs + k) × IsRepeatAt ys k x)
-        → (k : ℕ) × (suc i ≡ length (y ∷ xs) + k) × IsRepeatAt ys k x
+        → (IsRepeatedEntryAt (xs ++ ys) i x → (k : ℕ) × (i ≡ length xs + k) × IsRepeatedEntryAt ys k x)
+        → (k : ℕ) × (suc i ≡ length (y ∷ xs) + k) × IsRepeatedEntryAt ys k x
     by zero below at further = elim (occurs_in_either xs ys x (i, repeat.0)) [
       | inl a ↦ absurd (not_later y xs x none (same_Some y x at) a)
       | inr b ↦ absurd (apart (0, at) b)
@@ -75,7 +76,7 @@ entry_after : {A : Type 0} (xs ys : List A) (i : ℕ) (x : A) → slice_get ys i
 entry_after [] ys i x at = (i, omega arith, at)
 entry_after (y ∷ xs) ys i x at = let later = entry_after xs ys i x at in (suc later.0, omega (arith, later.1), later.2)
 
-repeat_after : {A : Type 0} (xs ys : List A) (i : ℕ) (x : A) → IsRepeatAt ys i x → (k : ℕ) × (k ≡ length xs + i) × IsRepeatAt (xs ++ ys) k x
+repeat_after : {A : Type 0} (xs ys : List A) (i : ℕ) (x : A) → IsRepeatedEntryAt ys i x → (k : ℕ) × (k ≡ length xs + i) × IsRepeatedEntryAt (xs ++ ys) k x
 repeat_after xs ys i x repeat =
     let here = entry_after xs ys i x repeat.0 in
     let earlier = entry_after xs ys repeat.1.0 x repeat.1.2 in
@@ -84,12 +85,12 @@ repeat_after xs ys i x repeat =
 -- ---- modules
 
 -- A module of the new ones is the put one or an old one.
-module_with : (m : ModuleView) (xs : List ModuleView) (x : ModuleView) → Occurs (modules_with m xs) x → (m ≡ x) ⊎ Occurs xs x
+module_with : (m : ModuleView) (xs : List ModuleView) (x : ModuleView) → Occurs (modules_with_put_module m xs) x → (m ≡ x) ⊎ Occurs xs x
 module_with m [] x (zero, is) = inl (same_Some m x is)
 module_with m [] x (suc j, is) = absurd (none-some x is)
 module_with m (y ∷ xs) x at = by (bytes_eq m.specifier y.specifier) (λ later. module_with m xs x later) at
   where
-    by : (b : Bool) → (Occurs (modules_with m xs) x → (m ≡ x) ⊎ Occurs xs x) → Occurs (if b then m ∷ xs else y ∷ modules_with m xs) x
+    by : (b : Bool) → (Occurs (modules_with_put_module m xs) x → (m ≡ x) ⊎ Occurs xs x) → Occurs (if b then m ∷ xs else y ∷ modules_with_put_module m xs) x
         → (m ≡ x) ⊎ Occurs (y ∷ xs) x
     by true further (zero, is) = inl (same_Some m x is)
     by true further (suc j, is) = inr (suc j, is)
@@ -103,27 +104,27 @@ module_with m (y ∷ xs) x at = by (bytes_eq m.specifier y.specifier) (λ later.
 abbrev IsIndexOfPut : ModuleView → List ModuleView → List ModuleView → ℕ → Type 0
 IsIndexOfPut m olds news k = (slice_get news k ≡ Some m) × ((i : ℕ) (x : ModuleView) → i < k → slice_get news i ≡ Some x → Occurs olds x)
 
-index_of_put : (m : ModuleView) (xs : List ModuleView) → (k : ℕ) × IsIndexOfPut m xs (modules_with m xs) k
+index_of_put : (m : ModuleView) (xs : List ModuleView) → (k : ℕ) × IsIndexOfPut m xs (modules_with_put_module m xs) k
 index_of_put m [] = (0, (refl, λ i x below at. absurd (omega (arith, below))))
 index_of_put m (y ∷ xs) = by (bytes_eq m.specifier y.specifier) (index_of_put m xs)
   where
-    by : (b : Bool) → (k : ℕ) × IsIndexOfPut m xs (modules_with m xs) k
-        → (k : ℕ) × IsIndexOfPut m (y ∷ xs) (if b then m ∷ xs else y ∷ modules_with m xs) k
+    by : (b : Bool) → (k : ℕ) × IsIndexOfPut m xs (modules_with_put_module m xs) k
+        → (k : ℕ) × IsIndexOfPut m (y ∷ xs) (if b then m ∷ xs else y ∷ modules_with_put_module m xs) k
     by true further = (0, (refl, λ i x below at. absurd (omega (arith, below))))
     by false further = (suc further.0, (further.1.0, before))
       where
-        before : (i : ℕ) (x : ModuleView) → i < suc further.0 → slice_get (y ∷ modules_with m xs) i ≡ Some x → Occurs (y ∷ xs) x
+        before : (i : ℕ) (x : ModuleView) → i < suc further.0 → slice_get (y ∷ modules_with_put_module m xs) i ≡ Some x → Occurs (y ∷ xs) x
         before zero x below at = (0, at)
         before (suc i) x below at = let old = further.1.1 i x (omega (arith, below)) at in (suc old.0, old.1)
 
-specifier_with : (m : ModuleView) (xs : List ModuleView) (s : List ℕ) → Occurs (module_specifiers (modules_with m xs)) s
+specifier_with : (m : ModuleView) (xs : List ModuleView) (s : List ℕ) → Occurs (module_specifiers (modules_with_put_module m xs)) s
     → (m.specifier ≡ s) ⊎ Occurs (module_specifiers xs) s
 specifier_with m [] s (zero, is) = inl (same_Some m.specifier s is)
 specifier_with m [] s (suc j, is) = absurd (none-some s is)
 specifier_with m (y ∷ xs) s at = by (bytes_eq m.specifier y.specifier) (λ later. specifier_with m xs s later) at
   where
-    by : (b : Bool) → (Occurs (module_specifiers (modules_with m xs)) s → (m.specifier ≡ s) ⊎ Occurs (module_specifiers xs) s)
-        → Occurs (module_specifiers (if b then m ∷ xs else y ∷ modules_with m xs)) s → (m.specifier ≡ s) ⊎ Occurs (module_specifiers (y ∷ xs)) s
+    by : (b : Bool) → (Occurs (module_specifiers (modules_with_put_module m xs)) s → (m.specifier ≡ s) ⊎ Occurs (module_specifiers xs) s)
+        → Occurs (module_specifiers (if b then m ∷ xs else y ∷ modules_with_put_module m xs)) s → (m.specifier ≡ s) ⊎ Occurs (module_specifiers (y ∷ xs)) s
     by true further (zero, is) = inl (same_Some m.specifier s is)
     by true further (suc j, is) = inr (suc j, is)
     by false further (zero, is) = inr (0, is)
@@ -134,18 +135,18 @@ specifier_with m (y ∷ xs) s at = by (bytes_eq m.specifier y.specifier) (λ lat
 
 -- The put module repeats no specifier.
 specifiers_with : (m : ModuleView) (xs : List ModuleView) (s : List ℕ) → HasNoRepeatOf (module_specifiers xs) s
-    → HasNoRepeatOf (module_specifiers (modules_with m xs)) s
+    → HasNoRepeatOf (module_specifiers (modules_with_put_module m xs)) s
 specifiers_with m [] s none = none_with_head m.specifier [] s (λ is at. none-some s at.1) none
 specifiers_with m (y ∷ xs) s none = by (bytes_eq m.specifier y.specifier) refl (specifiers_with m xs s (none_in_tail y.specifier (module_specifiers xs) s none))
   where
-    by : (b : Bool) → bytes_eq m.specifier y.specifier ≡ b → HasNoRepeatOf (module_specifiers (modules_with m xs)) s
-        → HasNoRepeatOf (module_specifiers (if b then m ∷ xs else y ∷ modules_with m xs)) s
+    by : (b : Bool) → bytes_eq m.specifier y.specifier ≡ b → HasNoRepeatOf (module_specifiers (modules_with_put_module m xs)) s
+        → HasNoRepeatOf (module_specifiers (if b then m ∷ xs else y ∷ modules_with_put_module m xs)) s
     by true is later = none_with_head m.specifier (module_specifiers xs) s
         (λ e at. not_later y.specifier (module_specifiers xs) s none (sym ((bytes_eq-Decides m.specifier y.specifier).0 is) ∙ e) at)
         (none_in_tail y.specifier (module_specifiers xs) s none)
-    by false is later = none_with_head y.specifier (module_specifiers (modules_with m xs)) s new later
+    by false is later = none_with_head y.specifier (module_specifiers (modules_with_put_module m xs)) s new later
       where
-        new : y.specifier ≡ s → Occurs (module_specifiers (modules_with m xs)) s → ⊥
+        new : y.specifier ≡ s → Occurs (module_specifiers (modules_with_put_module m xs)) s → ⊥
         new e at = elim (specifier_with m xs s at) [
           | inl same ↦ true≢false (sym ((bytes_eq-Decides m.specifier y.specifier).1 (same ∙ sym e)) ∙ is)
           | inr old ↦ not_later y.specifier (module_specifiers xs) s none e old
@@ -155,7 +156,7 @@ specifiers_with m (y ∷ xs) s none = by (bytes_eq m.specifier y.specifier) refl
 
 module _ (specifier : List ℕ) where
   abbrev remaining : List Resolution → List Resolution
-  remaining olds = filter (is_of_other_referrer specifier) olds
+  remaining olds = filter (is_resolution_of_other_referrer specifier) olds
 
   other_occurs : (olds : List Resolution) (k : List ℕ × List ℕ) → Occurs (resolution_keys (remaining olds)) k → Occurs (resolution_keys olds) k
   other_occurs [] k at = at
@@ -190,7 +191,7 @@ module _ (specifier : List ℕ) where
       by false other further (suc j, is) = further (j, is)
 
   abbrev news : List (List ℕ × List ℕ) → List Resolution
-  news resolved = map (resolution_in specifier) resolved
+  news resolved = map (resolution_with_referrer specifier) resolved
 
   -- A new resolution has this referrer, and one of the specifier texts.
   new_key : (resolved : List (List ℕ × List ℕ)) (i : ℕ) (k : List ℕ × List ℕ) → slice_get (resolution_keys (news resolved)) i ≡ Some k
@@ -209,12 +210,13 @@ module _ (specifier : List ℕ) where
 
   -- A repeated key is that of a new resolution, if the former ones have no repeat of it.
   repeated_key : (olds : List Resolution) (resolved : List (List ℕ × List ℕ)) (k : List ℕ × List ℕ) → HasNoRepeatOf (resolution_keys olds) k → (i : ℕ)
-      → IsRepeatAt (resolution_keys (remaining olds ++ news resolved)) i k
-      → (n : ℕ) × (i ≡ length (resolution_keys (remaining olds)) + n) × (specifier ≡ k.0) × IsRepeatAt (map (λ (r : List ℕ × List ℕ). r.0) resolved) n k.1
+      → IsRepeatedEntryAt (resolution_keys (remaining olds ++ news resolved)) i k
+      → (n : ℕ) × (i ≡ length (resolution_keys (remaining olds)) + n) × (specifier ≡ k.0) × IsRepeatedEntryAt
+      (map (λ (r : List ℕ × List ℕ). r.0) resolved) n k.1
   repeated_key olds resolved k none i repeat =
       let keys = map-append (λ (r : Resolution). (r.referrer, r.specifier_text)) (remaining olds) (news resolved) in
       let joined = repeat_in_second (resolution_keys (remaining olds)) (resolution_keys (news resolved)) k (remaining_without_repeat olds k none) apart i
-      (subst (λ (ks : List (List ℕ × List ℕ)). IsRepeatAt ks i k) keys repeat) in
+      (subst (λ (ks : List (List ℕ × List ℕ)). IsRepeatedEntryAt ks i k) keys repeat) in
       let here = new_key resolved joined.0 k joined.2.0 in
       let earlier = new_key resolved joined.2.1.0 k joined.2.1.2 in
       (joined.0, joined.1, here.0, (here.1, (joined.2.1.0, joined.2.1.1, earlier.1)))
@@ -224,19 +226,19 @@ module _ (specifier : List ℕ) where
 
   -- A repeated specifier text is a repeated key.
   repeated_text : (olds : List Resolution) (resolved : List (List ℕ × List ℕ)) (n : ℕ) (t : List ℕ)
-      → IsRepeatAt (map (λ (r : List ℕ × List ℕ). r.0) resolved) n t
-      → (i : ℕ) × (i ≡ length (resolution_keys (remaining olds)) + n) × IsRepeatAt (resolution_keys (remaining olds ++ news resolved)) i (specifier, t)
+      → IsRepeatedEntryAt (map (λ (r : List ℕ × List ℕ). r.0) resolved) n t
+      → (i : ℕ) × (i ≡ length (resolution_keys (remaining olds)) + n) × IsRepeatedEntryAt (resolution_keys (remaining olds ++ news resolved)) i (specifier, t)
   repeated_text olds resolved n t repeat =
       let keys = map-append (λ (r : Resolution). (r.referrer, r.specifier_text)) (remaining olds) (news resolved) in
       let joined = repeat_after (resolution_keys (remaining olds)) (resolution_keys (news resolved)) n (specifier, t)
       (key_of_new resolved n t repeat.0, (repeat.1.0, repeat.1.1, key_of_new resolved repeat.1.0 t repeat.1.2)) in
-      (joined.0, joined.1, subst (λ (ks : List (List ℕ × List ℕ)). IsRepeatAt ks joined.0 (specifier, t)) (sym keys) joined.2)
+      (joined.0, joined.1, subst (λ (ks : List (List ℕ × List ℕ)). IsRepeatedEntryAt ks joined.0 (specifier, t)) (sym keys) joined.2)
 
 -- ---- faults
 
 module _ (graph : GraphView) (m : ModuleView) (resolved : List (List ℕ × List ℕ)) (none : IsFaultlessGraph graph) where
   -- A fault of the graph with the module is one of what is put.
-  put_fault : (i : ℕ) (f : GraphFault) → IsFaultAt (with_module graph m resolved) i f → (n : ℕ) × IsPutFaultAt graph.modules m resolved n f
+  put_fault : (i : ℕ) (f : GraphFault) → IsFaultAt (graph_with_put_module graph m resolved) i f → (n : ℕ) × IsPutFaultAt graph.modules m resolved n f
   put_fault i fault.OutOfMemory occurs = absurd occurs
   put_fault i fault.TooManyModules occurs = (i, occurs)
   put_fault i (fault.DuplicateSpecifier s) occurs =
@@ -252,14 +254,14 @@ module _ (graph : GraphView) (m : ModuleView) (resolved : List (List ℕ × List
     | inr old ↦ absurd (none old.0 (fault.Tree s found) (occurs.0, old.1, occurs.2, occurs.3))
   ]
 
-  pub faultless_with : IsFaultlessPut graph.modules m resolved → IsFaultlessGraph (with_module graph m resolved)
+  pub faultless_with : IsFaultlessPut graph.modules m resolved → IsFaultlessGraph (graph_with_put_module graph m resolved)
   faultless_with put i f occurs = let found = put_fault i f occurs in put found.0 f found.1
 
-  pub refused_with : (g : GraphFault) → IsFirstPutFault graph.modules m resolved g → IsFirstGraphFault (with_module graph m resolved) g
+  pub refused_with : (g : GraphFault) → IsFirstPutFault graph.modules m resolved g → IsFirstGraphFault (graph_with_put_module graph m resolved) g
   refused_with fault.OutOfMemory first = absurd first.1
   refused_with fault.TooManyModules first = (first.0, first.1, before)
     where
-      before : (i : ℕ) (f : GraphFault) → IsFaultTriedBefore i f first.0 fault.TooManyModules → IsFaultAt (with_module graph m resolved) i f → ⊥
+      before : (i : ℕ) (f : GraphFault) → IsFaultTriedBefore i f first.0 fault.TooManyModules → IsFaultAt (graph_with_put_module graph m resolved) i f → ⊥
       before i fault.TooManyModules earlier occurs = first.2 i fault.TooManyModules earlier occurs
       before i fault.OutOfMemory earlier occurs = occurs
       before i (fault.DuplicateSpecifier s) earlier occurs = ⊎_elim (λ lower. omega (arith, lower)) (λ same. omega (arith, same.0)) earlier
@@ -273,13 +275,14 @@ module _ (graph : GraphView) (m : ModuleView) (resolved : List (List ℕ × List
   refused_with (fault.DuplicateResolution r t) first =
       let at = repeated_text m.specifier graph.resolutions resolved first.0 (string_bytes t) first.1.1 in (
         at.0,
-        subst (λ (q : List ℕ). IsRepeatAt (resolution_keys (with_module graph m resolved).resolutions) at.0 (q, string_bytes t)) first.1.0 at.2,
+        subst (λ (q : List ℕ). IsRepeatedEntryAt (resolution_keys (graph_with_put_module graph m resolved).resolutions) at.0
+            (q, string_bytes t)) first.1.0 at.2,
         λ i f earlier occurs. ⊎_elim (λ lower. let found = put_fault i f occurs in first.2 found.0 f (inl lower) found.1)
             (λ same. before at.0 at.1 i f same.0 same.1 occurs) earlier,
       )
     where
       before : (k : ℕ) → k ≡ length (resolution_keys (remaining m.specifier graph.resolutions)) + first.0 → (i : ℕ) (f : GraphFault)
-          → graph_fault_rank f ≡ 4 → i < k → IsFaultAt (with_module graph m resolved) i f → ⊥
+          → graph_fault_rank f ≡ 4 → i < k → IsFaultAt (graph_with_put_module graph m resolved) i f → ⊥
       before k is i fault.OutOfMemory rank below occurs = occurs
       before k is i fault.TooManyModules rank below occurs = omega (arith, rank)
       before k is i (fault.DuplicateSpecifier s) rank below occurs = omega (arith, rank)
@@ -298,8 +301,8 @@ module _ (graph : GraphView) (m : ModuleView) (resolved : List (List ℕ × List
             (λ same. before at.0 at.1.1 i f same.0 same.1 occurs) earlier,
       )
     where
-      before : (k : ℕ) → ((i : ℕ) (x : ModuleView) → i < k → slice_get (modules_with m graph.modules) i ≡ Some x → Occurs graph.modules x)
-          → (i : ℕ) (f : GraphFault) → graph_fault_rank f ≡ 5 → i < k → IsFaultAt (with_module graph m resolved) i f → ⊥
+      before : (k : ℕ) → ((i : ℕ) (x : ModuleView) → i < k → slice_get (modules_with_put_module m graph.modules) i ≡ Some x → Occurs graph.modules x)
+          → (i : ℕ) (f : GraphFault) → graph_fault_rank f ≡ 5 → i < k → IsFaultAt (graph_with_put_module graph m resolved) i f → ⊥
       before k olds i fault.OutOfMemory rank below occurs = occurs
       before k olds i fault.TooManyModules rank below occurs = omega (arith, rank)
       before k olds i (fault.DuplicateSpecifier x) rank below occurs = omega (arith, rank)
@@ -313,9 +316,9 @@ module _ (graph : GraphView) (m : ModuleView) (resolved : List (List ℕ × List
 -- ---- views
 
 pub same_with : (raw graph : GraphView) (m : ModuleView) (resolved : List (List ℕ × List ℕ)) → IsSameGraph raw graph
-    → IsSameGraph (with_module raw m resolved) (with_module graph m resolved)
+    → IsSameGraph (graph_with_put_module raw m resolved) (graph_with_put_module graph m resolved)
 same_with raw graph m resolved same = (
-  ap (modules_with m) same.0,
+  ap (modules_with_put_module m) same.0,
   same.1,
   λ r t. resolved_with m.specifier r t graph.resolutions resolved
       ∙ ap (cond (bytes_eq r m.specifier) (lookup (bytes_eq t) resolved)) (same.2 r t)

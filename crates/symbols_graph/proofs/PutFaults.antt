@@ -5,18 +5,18 @@ use Rattle.symbols_ast.specs.declared.graph.faults.GraphFault.{GraphFault}
 use Rattle.symbols_ast.specs.declared.graph.faults.GraphFault.TheVariants as fault
 use Rattle.symbols_ast.specs.Graph.{ModuleView, IsCheckedContent}
 use Rattle.symbols_graph.specs.GraphFaults.{IsFaultTriedBefore, redirect_sources}
-use Rattle.symbols_graph.specs.PutModules.{modules_with, IsPutFaultAt, IsFaultlessPut, IsFirstPutFault}
+use Rattle.symbols_graph.specs.PutModules.{modules_with_put_module, IsPutFaultAt, IsFaultlessPut, IsFirstPutFault}
 use Rattle.symbols_graph.specs.inner.CheckSteps.{HasNoRepeat}
 use Rattle.symbols_graph.specs.inner.PutSteps.{IsFirstRepeatedText, IsFaultOfModuleTree}
 use Rattle.symbols_graph.proofs.TreeRefusal.{good_content}
 
 module _ (modules : List ModuleView) (m : ModuleView) (resolved : List (List ℕ × List ℕ)) where
   -- No fault is tried before too many modules.
-  pub refused_by_count : 2 ^ 32 ≤ length (modules_with m modules) → IsFirstPutFault modules m resolved fault.TooManyModules
+  pub refused_by_count : 2 ^ 32 ≤ length (modules_with_put_module m modules) → IsFirstPutFault modules m resolved fault.TooManyModules
   refused_by_count many =
       (0, many, λ i f earlier occurs. ⊎_elim (λ lower. absurd (omega (arith, lower))) (λ same. absurd (omega (arith, same.1))) earlier)
 
-  module _ (few : length (modules_with m modules) < 2 ^ 32) where
+  module _ (few : length (modules_with_put_module m modules) < 2 ^ 32) where
     -- The first repeated specifier text is the first fault.
     pub refused_by_texts : (f : GraphFault) → IsFirstRepeatedText m.specifier resolved f → f ≢ fault.OutOfMemory → IsFirstPutFault modules m resolved f
     refused_by_texts fault.OutOfMemory is some = absurd (some refl)

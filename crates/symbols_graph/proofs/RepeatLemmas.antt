@@ -8,7 +8,7 @@ use Rattle.std.proofs.lemmas.Bool.{cases_lt, false≢true}
 use Rattle.std.proofs.lemmas.Bool.Decides.{Decides-and}
 use Rattle.std.proofs.lemmas.Slice.Eq.{bytes_eq-Decides}
 use Rattle.std.proofs.lemmas.Option.{slice_get_read, slice_get_within, slice_get-map, same_Some, none-some}
-use Rattle.symbols_graph.specs.Repeats.{IsRepeatAt}
+use Rattle.symbols_graph.specs.Repeats.{IsRepeatedEntryAt}
 use Rattle.symbols_graph.specs.inner.CheckSteps.{IsFirstWhere, IsRepeatBy}
 
 -- P holds for no entry before n.
@@ -80,7 +80,7 @@ read_entry f xs i z at = option_map_some f (slice_get xs i) z (sym (slice_get-ma
 
 module _ {A B : Type 0} (eq : A → A → Bool) (f : A → B) (decides : (x y : A) → Decides (eq x y) (f x ≡ f y)) where
   -- A repeat by eq is a repeat in the mapped list.
-  pub repeat_read : (xs : List A) (i : ℕ) (x : A) → IsRepeatBy eq xs i x → IsRepeatAt (map f xs) i (f x)
+  pub repeat_read : (xs : List A) (i : ℕ) (x : A) → IsRepeatBy eq xs i x → IsRepeatedEntryAt (map f xs) i (f x)
   repeat_read xs i x repeat =
       let earlier = passed_below (λ y. eq y x) xs i repeat.1 in (
         slice_get-map f xs i ∙ ap (option_map f) repeat.0,
@@ -88,7 +88,7 @@ module _ {A B : Type 0} (eq : A → A → Bool) (f : A → B) (decides : (x y : 
       )
 
   -- A repeat in the mapped list is a repeat by eq of some entry.
-  pub repeat_unread : (xs : List A) (i : ℕ) (z : B) → IsRepeatAt (map f xs) i z → (x : A) × IsRepeatBy eq xs i x
+  pub repeat_unread : (xs : List A) (i : ℕ) (z : B) → IsRepeatedEntryAt (map f xs) i z → (x : A) × IsRepeatBy eq xs i x
   repeat_unread xs i z repeat =
       let here = read_entry f xs i z repeat.0 in
       let there = read_entry f xs repeat.1.0 z repeat.1.2 in
@@ -96,11 +96,11 @@ module _ {A B : Type 0} (eq : A → A → Bool) (f : A → B) (decides : (x y : 
 
   -- The image of the first repeat by eq is the first repeat in the mapped list.
   pub first_repeat_read : (xs : List A) (ys : List B) → map f xs ≡ ys → (found : Option A) → IsFirstWhere (IsRepeatBy eq xs) found
-      → IsFirstWhere (IsRepeatAt ys) (option_map f found)
+      → IsFirstWhere (IsRepeatedEntryAt ys) (option_map f found)
   first_repeat_read xs ys is None first =
-      subst (λ zs. (i : ℕ) (z : B) → IsRepeatAt zs i z → ⊥) is (λ i z repeat. let found = repeat_unread xs i z repeat in first i found.0 found.1)
+      subst (λ zs. (i : ℕ) (z : B) → IsRepeatedEntryAt zs i z → ⊥) is (λ i z repeat. let found = repeat_unread xs i z repeat in first i found.0 found.1)
   first_repeat_read xs ys is (Some x) first =
-      subst (λ zs. IsFirstWhere (IsRepeatAt zs) (Some (f x))) is
+      subst (λ zs. IsFirstWhere (IsRepeatedEntryAt zs) (Some (f x))) is
       (first.0, repeat_read xs first.0 x first.1, λ j z below repeat. let found = repeat_unread xs j z repeat in first.2 j found.0 below found.1)
 
 -- Two pairs of texts are equal if and only if both parts are.

@@ -5,7 +5,7 @@ use Rattle.symbols_ast.specs.declared.graph.faults.TreeFault.{TreeFault}
 use Rattle.symbols_ast.specs.declared.graph.faults.GraphFault.{GraphFault}
 use Rattle.symbols_ast.specs.declared.graph.faults.GraphFault.TheVariants as fault
 use Rattle.symbols_ast.specs.Graph.{GraphView, ModuleContent, ModuleView, Resolution, content_tree, content_text}
-use Rattle.symbols_graph.specs.Repeats.{IsRepeatAt}
+use Rattle.symbols_graph.specs.Repeats.{IsRepeatedEntryAt}
 use Rattle.symbols_ast.specs.TreeFaults.{IsFirstTreeFault}
 
 abbrev pub module_specifiers : List ModuleView → List (List ℕ)
@@ -36,11 +36,11 @@ IsTreeFaultAt modules i found = (m : ModuleView) × (slice_get modules i ≡ Som
 abbrev pub IsFaultAt : GraphView → ℕ → GraphFault → Type 0
 IsFaultAt graph i fault.OutOfMemory = ⊥
 IsFaultAt graph i fault.TooManyModules = 2 ^ 32 ≤ length graph.modules
-IsFaultAt graph i (fault.DuplicateSpecifier specifier) = IsRepeatAt (module_specifiers graph.modules) i (string_bytes specifier)
-IsFaultAt graph i (fault.DuplicateRedirect source) = IsRepeatAt (redirect_sources graph.redirects) i (string_bytes source)
+IsFaultAt graph i (fault.DuplicateSpecifier specifier) = IsRepeatedEntryAt (module_specifiers graph.modules) i (string_bytes specifier)
+IsFaultAt graph i (fault.DuplicateRedirect source) = IsRepeatedEntryAt (redirect_sources graph.redirects) i (string_bytes source)
 IsFaultAt graph i (fault.RedirectToRedirect source) = IsRedirectToRedirect graph.redirects i (string_bytes source)
 IsFaultAt graph i (fault.DuplicateResolution referrer specifier_text) =
-    IsRepeatAt (resolution_keys graph.resolutions) i (string_bytes referrer, string_bytes specifier_text)
+    IsRepeatedEntryAt (resolution_keys graph.resolutions) i (string_bytes referrer, string_bytes specifier_text)
 IsFaultAt graph i (fault.Tree specifier found) = IsTreeFaultAt graph.modules i (string_bytes specifier, found)
 
 -- The order in which the faults are tried, each over the whole graph.

@@ -11,13 +11,13 @@ abbrev pub StringMap : Type 0 → Type 0
 StringMap V = IndexMap (String Global) V RandomState
 
 -- Pairs of strings, as bytes.
-abbrev pub string_pairs_view : List (String Global × String Global) → List (List ℕ × List ℕ)
-string_pairs_view entries = map (λ e. (string_bytes e.0, string_bytes e.1)) entries
+abbrev pub string_pairs_bytes : List (String Global × String Global) → List (List ℕ × List ℕ)
+string_pairs_bytes entries = map (λ e. (string_bytes e.0, string_bytes e.1)) entries
 
 -- The resolutions of one referrer.
 abbrev pub resolutions_of_referrer : String Global × StringMap (String Global) → List Resolution
 resolutions_of_referrer e = map (λ r. record { referrer = string_bytes e.0; specifier_text = string_bytes r.0; specifier = string_bytes r.1 }) e.1.entries
 
 -- The resolutions as one list, referrer by referrer.
-abbrev pub flat_resolutions : List (String Global × StringMap (String Global)) → List Resolution
-flat_resolutions entries = flat_map resolutions_of_referrer entries
+abbrev pub resolutions_of_map_entries : List (String Global × StringMap (String Global)) → List Resolution
+resolutions_of_map_entries entries = flat_map resolutions_of_referrer entries

@@ -5,7 +5,7 @@ ghost use Rattle.std.specs.Option.{option_copied, option_map};
 ghost use Rattle.symbols_ast.specs.Graph.{module_view, redirect_view, resolution_view};
 ghost use Rattle.symbols_graph.specs.GraphFaults.{resolution_keys, redirect_sources};
 ghost use Rattle.symbols_graph.specs.GraphFaults.{module_specifiers};
-ghost use Rattle.symbols_graph.specs.Repeats.{IsRepeatAt};
+ghost use Rattle.symbols_graph.specs.Repeats.{IsRepeatedEntryAt};
 ghost use Rattle.symbols_graph.specs.inner.CheckSteps.{IsFirstWhere, IsRepeatBy};
 
 use std::alloc::{AllocError, Global};
@@ -37,7 +37,7 @@ pub(crate) fn repeated_specifier(
     modules: &[RawModule],
 ) -> Result<Option<&str>, AllocError>
     ensures { IfOk result (λ found. IsFirstWhere
-        (IsRepeatAt (module_specifiers (map module_view modules.now))) (option_copied found)) }
+        (IsRepeatedEntryAt (module_specifiers (map module_view modules.now))) (option_copied found)) }
 {
     let names: Vec<&str> = modules
         .iter()
@@ -53,7 +53,7 @@ pub(crate) fn repeated_source(
     redirects: &[(String, String)],
 ) -> Result<Option<&str>, AllocError>
     ensures { IfOk result (λ found. IsFirstWhere
-        (IsRepeatAt (redirect_sources (map redirect_view redirects.now))) (option_copied found)) }
+        (IsRepeatedEntryAt (redirect_sources (map redirect_view redirects.now))) (option_copied found)) }
 {
     let names: Vec<&str> = redirects
         .iter()
@@ -69,7 +69,7 @@ pub(crate) fn repeated_resolution(
     resolutions: &[RawResolution],
 ) -> Result<Option<(&str, &str)>, AllocError>
     ensures { IfOk result
-        (λ found. IsFirstWhere (IsRepeatAt (resolution_keys (map resolution_view resolutions.now)))
+        (λ found. IsFirstWhere (IsRepeatedEntryAt (resolution_keys (map resolution_view resolutions.now)))
         (option_map (λ p. (p.0.now, p.1.now)) found)) }
 {
     let pairs: Vec<(&str, &str)> = resolutions

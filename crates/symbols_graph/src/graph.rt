@@ -9,9 +9,9 @@ ghost use Rattle.symbols_ast.specs.declared.graph.faults.GraphFault.TheVariants.
 ghost use Rattle.symbols_ast.specs.Graph.{graph_view, module_after_redirect, module_view};
 ghost use Rattle.symbols_ast.specs.Graph.{resolved_dependency};
 ghost use Rattle.symbols_graph.specs.GraphFaults.{IsFaultlessGraph, IsFirstGraphFault};
-ghost use Rattle.symbols_graph.specs.PutModules.{IsFaultlessPut, IsFirstPutFault, modules_with};
-ghost use Rattle.symbols_graph.specs.PutModules.{with_module};
-ghost use Rattle.symbols_graph.specs.Tables.{string_pairs_view};
+ghost use Rattle.symbols_graph.specs.PutModules.{IsFaultlessPut, IsFirstPutFault, modules_with_put_module};
+ghost use Rattle.symbols_graph.specs.PutModules.{graph_with_put_module};
+ghost use Rattle.symbols_graph.specs.Tables.{string_pairs_bytes};
 
 use crate::graph_check::check;
 use crate::graph_maps::{
@@ -38,7 +38,7 @@ impl Model for ModuleGraph {
     ghost use Rattle.std.specs.String.{string_eq};
     ghost use Rattle.indexmap.specs.IndexMap.{values, IsUnique};
     ghost use Rattle.symbols_ast.specs.Graph.{GraphView};
-    ghost use Rattle.symbols_graph.specs.Tables.{flat_resolutions, string_pairs_view};
+    ghost use Rattle.symbols_graph.specs.Tables.{resolutions_of_map_entries, string_pairs_bytes};
     ghost use Rattle.symbols_graph.specs.inner.Tables.{AreKeyedBySpecifier};
 
     ghost Value = { GraphView };
@@ -46,8 +46,8 @@ impl Model for ModuleGraph {
     ghost view = { λ g.
         record {
           modules = values g.modules;
-          redirects = string_pairs_view g.redirects.entries;
-          resolutions = flat_resolutions g.resolutions.entries;
+          redirects = string_pairs_bytes g.redirects.entries;
+          resolutions = resolutions_of_map_entries g.resolutions.entries;
         } };
 
     ghost invariant = { λ g. AreKeyedBySpecifier g.modules.entries × IsUnique string_eq g.resolutions
@@ -187,17 +187,17 @@ impl ModuleGraph {
         resolutions: Vec<(String, String)>,
     ) -> Result<(), GraphFault>
         ensures faultless { OnOk result (IsFaultlessPut self.old.modules (module_view raw)
-            (string_pairs_view resolutions.items)) }
+            (string_pairs_bytes resolutions.items)) }
         ensures refused { IfErr result (λ fault. fault ≢ OutOfMemory
             → IsFirstPutFault self.old.modules (module_view raw)
-            (string_pairs_view resolutions.items) fault) }
+            (string_pairs_bytes resolutions.items) fault) }
         ensures modules { OnOk result
-            (self.new.modules ≡ modules_with (module_view raw) self.old.modules) }
+            (self.new.modules ≡ modules_with_put_module (module_view raw) self.old.modules) }
         ensures redirects { OnOk result (self.new.redirects ≡ self.old.redirects) }
         ensures resolutions { OnOk result ((referrer specifier_text : List ℕ)
             → resolved_dependency self.new referrer specifier_text
-            ≡ resolved_dependency (with_module self.old (module_view raw)
-            (string_pairs_view resolutions.items)) referrer specifier_text) }
+            ≡ resolved_dependency (graph_with_put_module self.old (module_view raw)
+            (string_pairs_bytes resolutions.items)) referrer specifier_text) }
         ensures unchanged { OnErr result (self.new ≡ self.old) }
     {
         let keys = self.keys();

@@ -9,7 +9,7 @@ ghost use Rattle.symbols_ast.specs.Graph.{IsCheckedContent, content_view, module
 ghost use Rattle.symbols_ast.specs.Graph.{redirect_view, resolution_view, find_resolved_specifier};
 ghost use Rattle.symbols_graph.specs.GraphFaults.{resolution_keys, redirect_sources};
 ghost use Rattle.symbols_graph.specs.GraphFaults.{module_specifiers};
-ghost use Rattle.symbols_graph.specs.Tables.{string_pairs_view};
+ghost use Rattle.symbols_graph.specs.Tables.{string_pairs_bytes};
 ghost use Rattle.symbols_graph.specs.inner.Tables.{AreKeyedBySpecifier};
 ghost use Rattle.symbols_graph.specs.inner.CheckSteps.{HasNoRepeat, resolved_specifier_in_maps};
 
@@ -61,7 +61,7 @@ pub(crate) fn keyed_redirects(
     redirects: Vec<(String, String)>,
 ) -> Result<StringMap<String>, AllocError>
     requires distinct { HasNoRepeat (redirect_sources (map redirect_view redirects.items)) }
-    ensures { IfOk result (λ keyed. string_pairs_view keyed.entries ≡ map redirect_view redirects.items) }
+    ensures { IfOk result (λ keyed. string_pairs_bytes keyed.entries ≡ map redirect_view redirects.items) }
 {
     let mut keyed = IndexMap::with_capacity_and_hasher(alloc, redirects.len(), keys)?;
     for (source, target) in redirects {

@@ -6,7 +6,7 @@ ghost use Rattle.symbols_ast.specs.declared.graph.faults.GraphFault.{GraphFault}
 ghost use Rattle.symbols_ast.specs.Graph.{GraphView, ModuleView};
 ghost use Rattle.symbols_graph.specs.GraphFaults.{IsFaultlessGraph, IsFirstGraphFault};
 ghost use Rattle.symbols_graph.specs.PutModules.{IsFaultlessPut, IsFirstPutFault, IsSameGraph};
-ghost use Rattle.symbols_graph.specs.PutModules.{with_module};
+ghost use Rattle.symbols_graph.specs.PutModules.{graph_with_put_module};
 
 /// States that putting a module is opening a graph anew. `ModuleGraph::new` accepts the raw graph
 /// with the module in place exactly if `put_module` accepts the module. Otherwise both have the
@@ -14,12 +14,12 @@ ghost use Rattle.symbols_graph.specs.PutModules.{with_module};
 pub fn putting_is_opening_anew()
     ensures faultless { (raw graph : GraphView) (m : ModuleView) (resolved : List (List ℕ × List ℕ))
         → IsSameGraph raw graph → IsFaultlessGraph raw → IsFaultlessPut graph.modules m resolved
-        → IsFaultlessGraph (with_module raw m resolved) }
+        → IsFaultlessGraph (graph_with_put_module raw m resolved) }
     ensures refused { (raw graph : GraphView) (m : ModuleView) (resolved : List (List ℕ × List ℕ))
         (fault : GraphFault) → IsSameGraph raw graph → IsFaultlessGraph raw
         → IsFirstPutFault graph.modules m resolved fault
-        → IsFirstGraphFault (with_module raw m resolved) fault }
+        → IsFirstGraphFault (graph_with_put_module raw m resolved) fault }
     ensures same { (raw graph : GraphView) (m : ModuleView) (resolved : List (List ℕ × List ℕ))
         → IsSameGraph raw graph
-        → IsSameGraph (with_module raw m resolved) (with_module graph m resolved) }
+        → IsSameGraph (graph_with_put_module raw m resolved) (graph_with_put_module graph m resolved) }
 {}

@@ -9,8 +9,8 @@ ghost use Rattle.symbols_ast.specs.Nodes.{kind_at};
 ghost use Rattle.symbols_ast.specs.Shapes.{is_misplaced_child, field_has_misplaced_child};
 ghost use Rattle.symbols_ast.specs.Shapes.{has_misplaced_child, is_string_literal};
 ghost use Rattle.symbols_ast.specs.Shapes.{is_binding_ident, needs_from_clause};
-ghost use Rattle.symbols_ast.specs.Shapes.{is_destructuring_default, breaks_kind_rule};
-ghost use Rattle.symbols_ast.specs.Shapes.{has_bad_shape};
+ghost use Rattle.symbols_ast.specs.Shapes.{is_destructuring_with_default, breaks_rule_of_its_kind};
+ghost use Rattle.symbols_ast.specs.Shapes.{has_misplaced_child_or_breaks_rule};
 
 use symbols_ast::tree::{Category, Children, Expr, Field, Item, Kind, Member, Node, NodeId, Pat};
 
@@ -99,8 +99,8 @@ fn any_needs_source(nodes: &[Node], ids: &[NodeId]) -> bool
     ids.iter().any(|id| node_needs_source(nodes, *id))
 }
 
-fn is_destructuring_default(nodes: &[Node], kind: &Kind) -> bool
-    ensures { result ≡ is_destructuring_default nodes.now kind.now }
+fn is_destructuring_with_default(nodes: &[Node], kind: &Kind) -> bool
+    ensures { result ≡ is_destructuring_with_default nodes.now kind.now }
 {
     match kind {
         Kind::Pat(Pat::AssignPat { left, .. }) => !is_binding_ident(nodes, *left),
@@ -109,16 +109,16 @@ fn is_destructuring_default(nodes: &[Node], kind: &Kind) -> bool
 }
 
 fn node_is_bad_param(nodes: &[Node], id: NodeId) -> bool
-    ensures { result ≡ option_map_or (is_destructuring_default nodes.now) (kind_at nodes.now id) false }
+    ensures { result ≡ option_map_or (is_destructuring_with_default nodes.now) (kind_at nodes.now id) false }
 {
     match nodes.get(id.index()) {
-        Some(node) => is_destructuring_default(nodes, &node.kind),
+        Some(node) => is_destructuring_with_default(nodes, &node.kind),
         None => false,
     }
 }
 
-fn breaks_kind_rule(nodes: &[Node], kind: &Kind) -> bool
-    ensures { result ≡ breaks_kind_rule nodes.now kind.now }
+fn breaks_rule_of_its_kind(nodes: &[Node], kind: &Kind) -> bool
+    ensures { result ≡ breaks_rule_of_its_kind nodes.now kind.now }
 {
     match kind {
         Kind::Item(Item::ExportDefaultSpecifier { .. }) => true,
@@ -142,12 +142,13 @@ fn breaks_kind_rule(nodes: &[Node], kind: &Kind) -> bool
 
 /// Returns whether the node of a number has a bad shape (extension); false if there is no such
 /// node.
-#[tactic(auto, unfolding(symbols_ast::specs::Shapes::has_bad_shape))]
-pub(crate) fn has_bad_shape(nodes: &[Node], n: usize) -> bool
-    ensures { result ≡ has_bad_shape nodes.now n }
+#[tactic(auto, unfolding(symbols_ast::specs::Shapes::has_misplaced_child_or_breaks_rule))]
+pub(crate) fn has_misplaced_child_or_breaks_rule(nodes: &[Node], n: usize) -> bool
+    ensures { result ≡ has_misplaced_child_or_breaks_rule nodes.now n }
 {
     match nodes.get(n) {
-        Some(node) => has_misplaced_child(nodes, &node.kind) || breaks_kind_rule(nodes, &node.kind),
+        Some(node) => has_misplaced_child(nodes, &node.kind)
+            || breaks_rule_of_its_kind(nodes, &node.kind),
         None => false,
     }
 }

@@ -6,7 +6,7 @@ ghost use Rattle.symbols_ast.specs.declared.graph.faults.GraphFault.TheVariants.
 ghost use Rattle.symbols_ast.specs.declared.graph.faults.GraphFault.TheVariants.{TooManyModules};
 ghost use Rattle.symbols_ast.specs.Graph.{IsCheckedContent, content_view, module_view, redirect_view};
 ghost use Rattle.symbols_graph.specs.GraphFaults.{redirect_sources};
-ghost use Rattle.symbols_graph.specs.PutModules.{IsFaultlessPut, IsFirstPutFault, modules_with};
+ghost use Rattle.symbols_graph.specs.PutModules.{IsFaultlessPut, IsFirstPutFault, modules_with_put_module};
 ghost use Rattle.symbols_graph.specs.inner.CheckSteps.{HasNoRepeat};
 ghost use Rattle.symbols_graph.specs.inner.PutSteps.{IsFirstRepeatedText, IsFaultOfModuleTree};
 ghost use Rattle.symbols_graph.specs.inner.Tables.{AreKeyedBySpecifier};
@@ -23,9 +23,9 @@ fn check_room(modules: &StringMap<GraphModule>, raw: &RawModule) -> Result<(), G
     requires keyed { AreKeyedBySpecifier modules.now.entries }
     requires few { length modules.now.entries < 2 ^ 32 }
     ensures accepted { OnOk result
-        (length (modules_with (module_view raw.now) (values modules.now)) < 2 ^ 32) }
+        (length (modules_with_put_module (module_view raw.now) (values modules.now)) < 2 ^ 32) }
     ensures refused { IfErr result (λ fault. (fault ≡ TooManyModules)
-        × (2 ^ 32 ≤ length (modules_with (module_view raw.now) (values modules.now)))) }
+        × (2 ^ 32 ≤ length (modules_with_put_module (module_view raw.now) (values modules.now)))) }
 {
     if modules.len() < u32::MAX as usize {
         return Ok(());
@@ -82,7 +82,7 @@ pub(crate) fn check_put(
     ensures checked { OnOk result (IsCheckedContent (content_view raw.now.kind)) }
     ensures distinct { OnOk result (HasNoRepeat (redirect_sources (map redirect_view resolutions.now))) }
     ensures few { OnOk result
-        (length (modules_with (module_view raw.now) (values modules.now)) < 2 ^ 32) }
+        (length (modules_with_put_module (module_view raw.now) (values modules.now)) < 2 ^ 32) }
     ensures accepted { OnOk result (IsFaultlessPut (values modules.now) (module_view raw.now)
         (map redirect_view resolutions.now)) }
     ensures refused { IfErr result (λ fault. fault ≢ OutOfMemory

@@ -10,7 +10,7 @@ ghost use Rattle.symbols_ast.specs.TreeFaults.{HasNoTreeFaultBelowRank, IsFirstT
 ghost use Rattle.symbols_ast.specs.WellFormed.{IsWellFormedTree};
 
 use crate::child_list::list_children;
-use crate::node_shape::has_bad_shape;
+use crate::node_shape::has_misplaced_child_or_breaks_rule;
 use std::alloc::{AllocError, Global};
 use symbols_ast::graph::TreeFault;
 use symbols_ast::tree::{Item, Kind, Node, NodeId, SourceRange, Tree};
@@ -95,7 +95,7 @@ fn first_fault_at(
     if !lies_in(nodes[n].range, text) {
         return Some(TreeFault::BadRange(id));
     }
-    if has_bad_shape(nodes, n) {
+    if has_misplaced_child_or_breaks_rule(nodes, n) {
         return Some(TreeFault::BadShape(id));
     }
     if depth > DEEPEST {

@@ -3,7 +3,7 @@ use Rattle.std.specs.Prelude.{◌≡◌, ℕ, List, [], ◌∷◌, Contains}
 use Rattle.symbols_paths.specs.PathTrees.{SymbolBySpecifier, QualifiedNameParts, DefinitionView, definition, unresolved}
 use Rattle.symbols_paths.specs.PathTrees.{PathTree, PathForest, leaf, link, no_trees, more_trees}
 use Rattle.symbols_paths.specs.DeclTargets.{DeclTargetView, defines, forwards, alias}
-use Rattle.symbols_paths.specs.PartTargets.{to, SearchRoutes}
+use Rattle.symbols_paths.specs.PartTargets.{part_is_symbol, SearchTargets}
 use Rattle.symbols_paths.specs.Derived.{definition_of_decl}
 
 -- the symbols and the definitions that are marked
@@ -33,9 +33,10 @@ AreMarkedTargets marks s [] = Unit {0}
 AreMarkedTargets marks s (x ∷ xs) = IsMarkedTarget marks s x × AreMarkedTargets marks s xs
 
 -- the targets of marked symbols and of parts in marked definitions are the same in both, and marked
-pub record AreRoutesAlike (routes other : SearchRoutes) (marks : Marks) : Type 0 where
+pub record AreRoutesAlike (routes other : SearchTargets) (marks : Marks) : Type 0 where
   pub same_targets : (s : SymbolBySpecifier) → marks.symbol s → routes.decl_targets s ≡ other.decl_targets s
   pub marked_targets : (s : SymbolBySpecifier) → marks.symbol s → AreMarkedTargets marks s (routes.decl_targets s)
   pub same_parts : (x : DefinitionView) (p : List ℕ) (ps : QualifiedNameParts) → marks.definition_view x → routes.part x p ps ≡ other.part x p ps
-  pub marked_parts : (x : DefinitionView) (p : List ℕ) (ps : QualifiedNameParts) (t : SymbolBySpecifier) → marks.definition_view x → routes.part x p ps ≡ to t
+  pub marked_parts : (x : DefinitionView) (p : List ℕ) (ps : QualifiedNameParts) (t : SymbolBySpecifier) → marks.definition_view x → routes.part x p ps
+      ≡ part_is_symbol t
       → marks.symbol t

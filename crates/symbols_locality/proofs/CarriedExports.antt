@@ -24,19 +24,19 @@ module _ (s : StarTargets) (o : ExplicitExports) (t : StarTargets) (p : Explicit
   candidate_there : (e : ExportEntry) → IsExportCandidate s o start e → IsExportCandidate t p start e
   candidate_there e candidate = record {
     ends_at = simple_there s t start alike.same_statements e.chain e.exporter candidate.ends_at;
-    exports_name =
+    exporter_exports_name_explicitly =
         subst (λ names. Contains names (e.name, e.symbol))
-        (alike.same_explicit e.exporter (end_along e.chain e.exporter candidate.ends_at)) candidate.exports_name;
-    passed = candidate.passed;
+        (alike.same_explicit e.exporter (end_along e.chain e.exporter candidate.ends_at)) candidate.exporter_exports_name_explicitly;
+    default_has_empty_chain = candidate.default_has_empty_chain;
   }
 
   exporter_there : (name : List ℕ) (e : ExportEntry) → IsExporter s o start name e → IsExporter t p start name e
   exporter_there name e exporter = record {
     named = exporter.named;
     ends_at = least_there s o t p start alike e.chain e.exporter exporter.ends_at;
-    exports_name =
+    exporter_exports_name_explicitly =
         subst (λ names. Contains names (name, e.symbol))
-        (alike.same_explicit e.exporter (end_along e.chain e.exporter exporter.ends_at.is_chain)) exporter.exports_name;
+        (alike.same_explicit e.exporter (end_along e.chain e.exporter exporter.ends_at.is_chain)) exporter.exporter_exports_name_explicitly;
   }
 
   in_order_there : (x y : ExportEntry) → IsReachedAlongStars s start x.exporter → IsExportEntryBefore o x y → IsExportEntryBefore p x y
@@ -68,15 +68,16 @@ module _ (s : StarTargets) (o : ExplicitExports) (t : StarTargets) (p : Explicit
   two_exporters_there name two = record {
     one = two.one;
     other = two.other;
-    first_exports_name = exporter_there s o t p start alike name two.one two.first_exports_name;
-    second_exports_name = exporter_there s o t p start alike name two.other two.second_exports_name;
-    are_two = two.are_two;
+    one_is_exporter = exporter_there s o t p start alike name two.one two.one_is_exporter;
+    other_is_exporter = exporter_there s o t p start alike name two.other two.other_is_exporter;
+    exporters_are_different = two.exporters_are_different;
   }
 
   shared_name_there : (name : List ℕ) → IsSharedName s o start name → IsSharedName t p start name
   shared_name_there name shared = record {
-    not_default = shared.not_default;
-    not_explicit = λ symbol has. shared.not_explicit symbol (subst (λ names. Contains names (name, symbol)) (sym (alike.same_explicit start at_start)) has);
+    is_not_default = shared.is_not_default;
+    is_not_exported_by_start = λ symbol has. shared.is_not_exported_by_start symbol (subst (λ names. Contains names (name, symbol))
+        (sym (alike.same_explicit start at_start)) has);
     two = two_exporters_there name shared.two;
   }
 

@@ -4,7 +4,7 @@ use Rattle.std.specs.Option.{option_map_or}
 use Rattle.symbols_ast.specs.declared.ids.SymbolId.{SymbolId}
 use Rattle.symbols_ast.specs.Graph.{GraphView}
 use Rattle.symbols_nodes.specs.References.{SymbolReference}
-use Rattle.symbols_table.specs.Changes.{Change, mapped_symbol_after}
+use Rattle.symbols_table.specs.Changes.{Change, symbol_of_ident_after_changes}
 use Rattle.symbols_table.specs.QualifiedNames.{qualified_name}
 use Rattle.symbols_table.specs.SymbolViews.{symbol_after_changes}
 use Rattle.symbols_root.specs.declared.rules.Rules.{Rules}
@@ -13,28 +13,32 @@ use Rattle.symbols_root.specs.TypesChains.{resolved_module_specifier}
 use Rattle.symbols_exports.specs.ExportAnswers.{AreExportListsCorrectAndUnique}
 use Rattle.symbols_exports.specs.PublicNames.{PublicNameView}
 use Rattle.symbols_paths.specs.PathTrees.{SymbolBySpecifier, QualifiedNameParts, PathForest, leaves_of_forest, definitions_among}
-use Rattle.symbols_paths.specs.PartTargets.{routes_of}
+use Rattle.symbols_paths.specs.PartTargets.{search_targets_of}
 use Rattle.symbols_paths.specs.Computed.{paths_with_parts}
-use Rattle.symbols_paths.specs.DepAnswers.{DepEntryView, path_entries, ReferencedSymbol, referenced_symbol, entries_without_symbol, dep_entries_of}
+use Rattle.symbols_paths.specs.DepAnswers.{DepEntryView, path_entries, ReferencedSymbolWithParts, referenced_symbol, entries_of_reference_without_symbol}
+use Rattle.symbols_paths.specs.DepAnswers.{dep_entries_of}
 use Rattle.symbols_answers.specs.Questions.{QuestionView, query_module, query_exports, query_names, query_symbol, query_name}
-use Rattle.symbols_answers.specs.Questions.{query_deps, query_paths, query_definitions, query_leaves, query_resolve, QueryView}
+use Rattle.symbols_answers.specs.Questions.{query_deps, query_paths, query_definitions, query_leaves, query_resolve, QueryForm, for_answer, for_inputs, QueryView}
 use Rattle.symbols_answers.specs.Answers.{AnswerView, answer_no_module, answer_exports, answer_names, answer_symbol}
-use Rattle.symbols_answers.specs.Answers.{answer_name, answer_paths, answer_definitions, answer_leaves, answer_resolve}
-use Rattle.symbols_answers.specs.QueryAnswers.{some_if_strict, definition_paths_from, dependencies_answer, answer_if_symbol, question_answer, query_answer}
-use Rattle.symbols_locality.specs.Seen.{FollowedSpecifiers, StarSpecifiers, is_queried, AreAlikeWhereSeen}
+use Rattle.symbols_answers.specs.Answers.{answer_name, answer_paths, answer_definitions, answer_leaves, answer_resolve, answer_inputs}
+use Rattle.symbols_answers.specs.Inputs.{InputView}
+use Rattle.symbols_answers.specs.QueryAnswers.{some_if_strict, definition_paths_from, dependencies_answer, some_answer_if_symbol_exists, question_answer}
+use Rattle.symbols_answers.specs.QueryAnswers.{answer_in_form, query_answer}
+use Rattle.symbols_answers.specs.Seen.{FollowedSpecifiers, StarSpecifiers, queried_specifier_is_looked_up, is_requested, AreAlikeWhereLookedUp}
 use Rattle.symbols_locality.proofs.FoundModules.{IsFound}
 use Rattle.symbols_locality.proofs.SearchMarks.{FollowsStars, marks_of}
-use Rattle.symbols_locality.specs.QueryReach.{IsFollowedBySearch, of_reference, followed_by_question, AreAlikeForQuery}
-use Rattle.symbols_locality.proofs.SeenAlike.{same_resolved_module, resolved_module_found, same_changes}
+use Rattle.symbols_answers.specs.QueryReach.{IsFollowedBySearch, import_type_specifier_is_followed, specifiers_followed_by_question, AreAlikeForQuery}
+use Rattle.symbols_locality.proofs.SeenAlike.{same_resolved_module, same_changes}
 use Rattle.symbols_locality.proofs.ExportViews.{same_export_views, same_unresolved_views, same_shared_name_views, same_names}
 use Rattle.symbols_locality.proofs.ComputedSearch.{same_paths}
+use Rattle.symbols_locality.proofs.SameInputs.{inputs_same}
 use Rattle.symbols_locality.proofs.SameReferences.{routes, IsReferenceFollowed, referenced_same, referenced_found, without_symbol_same}
 
 -- ---- paths
 
 module _ (rules : Rules) (graph other : GraphView) (listed : (start : List ℕ) → AreExportListsCorrectAndUnique graph start)
     (other_listed : (start : List ℕ) → AreExportListsCorrectAndUnique other start) (queried : List ℕ) (question : QuestionView)
-    (alike : AreAlikeWhereSeen graph other (IsFollowedBySearch graph queried question) queried) where
+    (alike : AreAlikeWhereLookedUp graph other (IsFollowedBySearch graph queried question) queried) where
   abbrev Follows : FollowedSpecifiers
   Follows = IsFollowedBySearch graph queried question
 
@@ -43,16 +47,17 @@ module _ (rules : Rules) (graph other : GraphView) (listed : (start : List ℕ) 
 
   paths_same : (s : SymbolBySpecifier) (ps : QualifiedNameParts) → Found s.specifier → paths_with_parts rules graph s ps ≡ paths_with_parts rules other s ps
   unfolding paths_with_parts
-  paths_same s ps at = same_paths (routes_of rules graph) (routes_of rules other) (marks_of graph Follows queried)
+  paths_same s ps at = same_paths (search_targets_of rules graph) (search_targets_of rules other) (marks_of graph Follows queried)
       (routes rules graph other listed other_listed queried question alike) s ps at
 
   paths_answer_same : (v : List ℕ) → Found v → (s : SymbolId) (answer_of : PathForest → AnswerView)
-      → answer_if_symbol (symbol_in_module graph v s) (answer_of (definition_paths_from rules graph v s))
-      ≡ answer_if_symbol (symbol_in_module other v s) (answer_of (definition_paths_from rules other v s))
+      → some_answer_if_symbol_exists (symbol_in_module graph v s) (answer_of (definition_paths_from rules graph v s))
+      ≡ some_answer_if_symbol_exists (symbol_in_module other v s) (answer_of (definition_paths_from rules other v s))
   paths_answer_same v at s answer_of =
-      ap (λ (changes : List Change). answer_if_symbol (symbol_after_changes changes s) (answer_of (definition_paths_from rules graph v s)))
+      ap (λ (changes : List Change). some_answer_if_symbol_exists (symbol_after_changes changes s) (answer_of (definition_paths_from rules graph v s)))
       (same_changes graph other Follows queried alike v at)
-      ∙ ap (λ (paths : PathForest). answer_if_symbol (symbol_in_module other v s) (answer_of paths)) (paths_same (record { specifier = v; number = s }) [] at)
+      ∙ ap (λ (paths : PathForest). some_answer_if_symbol_exists (symbol_in_module other v s) (answer_of paths))
+      (paths_same (record { specifier = v; number = s }) [] at)
 
   -- ---- references
 
@@ -63,11 +68,11 @@ module _ (rules : Rules) (graph other : GraphView) (listed : (start : List ℕ) 
       by (referenced_symbol graph v reference) (referenced_found rules graph other listed other_listed queried question alike v at reference follows)
       ∙ ap (entries_for other) (referenced_same rules graph other listed other_listed queried question alike v at reference follows)
     where
-      entries_for : GraphView → Option ReferencedSymbol → List DepEntryView
-      entries_for g found = option_map_or (λ (referenced : ReferencedSymbol). path_entries (paths_with_parts rules g referenced.0 referenced.1)) found
-          (entries_without_symbol g v reference)
+      entries_for : GraphView → Option ReferencedSymbolWithParts → List DepEntryView
+      entries_for g found = option_map_or (λ (referenced : ReferencedSymbolWithParts). path_entries (paths_with_parts rules g referenced.0 referenced.1)) found
+          (entries_of_reference_without_symbol g v reference)
 
-      by : (found : Option ReferencedSymbol) → ((t : ReferencedSymbol) → found ≡ Some t → Found t.0.specifier)
+      by : (found : Option ReferencedSymbolWithParts) → ((t : ReferencedSymbolWithParts) → found ≡ Some t → Found t.0.specifier)
           → entries_for graph found ≡ entries_for other found
       by None are = without_symbol_same rules graph other listed other_listed queried question alike v at reference follows
       by (Some t) are = ap path_entries (paths_same t.0 t.1 (are t refl))
@@ -81,10 +86,10 @@ module _ (rules : Rules) (graph other : GraphView) (listed : (start : List ℕ) 
     (other_listed : (start : List ℕ) → AreExportListsCorrectAndUnique other start) (queried : List ℕ) where
   -- the module is found
   found : (question : QuestionView) (v : List ℕ) → resolved_module_specifier graph queried ≡ Some v
-      → IsFound graph (followed_by_question graph queried question) queried v
-  found question v is = resolved_module_found graph (followed_by_question graph queried question) queried queried is_queried v is
+      → IsFound graph (specifiers_followed_by_question graph queried question) queried v
+  found question v is = record { key = queried; requested = queried_specifier_is_looked_up; resolves = is }
 
-  question_same : (question : QuestionView) → AreAlikeWhereSeen graph other (followed_by_question graph queried question) queried → (v : List ℕ)
+  question_same : (question : QuestionView) → AreAlikeWhereLookedUp graph other (specifiers_followed_by_question graph queried question) queried → (v : List ℕ)
       → resolved_module_specifier graph queried ≡ Some v → question_answer rules graph v question ≡ question_answer rules other v question
   question_same query_module alike v is = refl
   question_same query_exports alike v is =
@@ -99,15 +104,15 @@ module _ (rules : Rules) (graph other : GraphView) (listed : (start : List ℕ) 
       (same_names graph other (StarSpecifiers graph) queried alike (star_specifiers_followed graph queried) v (found query_names v is) (listed v)
       (other_listed v))
   question_same (query_symbol name) alike v is =
-      ap (λ (changes : List Change). Some (answer_symbol (mapped_symbol_after changes name)))
-      (same_changes graph other (followed_by_question graph queried (query_symbol name)) queried alike v (found (query_symbol name) v is))
+      ap (λ (changes : List Change). Some (answer_symbol (symbol_of_ident_after_changes changes name)))
+      (same_changes graph other (specifiers_followed_by_question graph queried (query_symbol name)) queried alike v (found (query_symbol name) v is))
   question_same (query_name s) alike v is =
-      ap (λ (changes : List Change). answer_if_symbol (symbol_after_changes changes s)
+      ap (λ (changes : List Change). some_answer_if_symbol_exists (symbol_after_changes changes s)
       (answer_name (qualified_name (λ (t : SymbolId). symbol_after_changes changes t) s)))
-      (same_changes graph other (followed_by_question graph queried (query_name s)) queried alike v (found (query_name s) v is))
+      (same_changes graph other (specifiers_followed_by_question graph queried (query_name s)) queried alike v (found (query_name s) v is))
   question_same (query_deps s mode) alike v is =
       ap (λ (changes : List Change). option_map (dependencies_answer mode) (symbol_after_changes changes s))
-      (same_changes graph other (followed_by_question graph queried (query_deps s mode)) queried alike v (found (query_deps s mode) v is))
+      (same_changes graph other (specifiers_followed_by_question graph queried (query_deps s mode)) queried alike v (found (query_deps s mode) v is))
   question_same (query_paths s) alike v is =
       paths_answer_same rules graph other listed other_listed queried (query_paths s) alike v (found (query_paths s) v is) s answer_paths
   question_same (query_definitions s) alike v is =
@@ -119,19 +124,29 @@ module _ (rules : Rules) (graph other : GraphView) (listed : (start : List ℕ) 
   question_same (query_resolve reference) alike v is =
       ap (λ (entries : List DepEntryView). Some (answer_resolve entries))
       (dep_entries_same rules graph other listed other_listed queried (query_resolve reference) alike v (found (query_resolve reference) v is) reference
-      (λ specifier_text parts same. of_reference parts is (ap query_resolve same)))
+      (λ specifier_text parts same. import_type_specifier_is_followed parts is (ap query_resolve same)))
 
-pub same_query_answer : (rules : Rules) (graph other : GraphView) → ((start : List ℕ) → AreExportListsCorrectAndUnique graph start)
+same_module_answer : (rules : Rules) (graph other : GraphView) → ((start : List ℕ) → AreExportListsCorrectAndUnique graph start)
     → ((start : List ℕ) → AreExportListsCorrectAndUnique other start) → (query : QueryView) → AreAlikeForQuery graph other query
-    → query_answer rules graph query ≡ query_answer rules other query
-same_query_answer rules graph other listed other_listed query alike =
+    → answer_in_form for_answer rules graph query ≡ answer_in_form for_answer rules other query
+same_module_answer rules graph other listed other_listed query alike =
     by (resolved_module_specifier graph query.specifier) refl
     ∙ ap (λ (found : Option (List ℕ)). option_map_or (λ (specifier : List ℕ). question_answer rules other specifier query.question) found
     (Some answer_no_module))
-    (same_resolved_module graph other (followed_by_question graph query.specifier query.question) query.specifier alike query.specifier is_queried)
+    (same_resolved_module graph other (specifiers_followed_by_question graph query.specifier query.question) query.specifier alike query.specifier
+    (is_requested queried_specifier_is_looked_up))
   where
     by : (found : Option (List ℕ)) → resolved_module_specifier graph query.specifier ≡ found
         → option_map_or (λ (specifier : List ℕ). question_answer rules graph specifier query.question) found (Some answer_no_module)
         ≡ option_map_or (λ (specifier : List ℕ). question_answer rules other specifier query.question) found (Some answer_no_module)
     by None is = refl
     by (Some v) is = question_same rules graph other listed other_listed query.specifier query.question alike v is
+
+pub same_query_answer : (rules : Rules) (graph other : GraphView) → ((start : List ℕ) → AreExportListsCorrectAndUnique graph start)
+    → ((start : List ℕ) → AreExportListsCorrectAndUnique other start) → (query : QueryView) → AreAlikeForQuery graph other query
+    → query_answer rules graph query ≡ query_answer rules other query
+same_query_answer rules graph other listed other_listed query alike = by query.form
+  where
+    by : (form : QueryForm) → answer_in_form form rules graph query ≡ answer_in_form form rules other query
+    by for_answer = same_module_answer rules graph other listed other_listed query alike
+    by for_inputs = ap (λ (inputs : List InputView). Some (answer_inputs inputs)) (inputs_same graph other query alike)

@@ -4,12 +4,13 @@ use Rattle.std.specs.Prelude.{Contains, if◌then◌else◌}
 use Rattle.symbols_paths.specs.PathTrees.{SymbolBySpecifier, DeclBySpecifier, QualifiedNameParts, DefinitionView, definition, unresolved, UnresolvedEntry}
 use Rattle.symbols_paths.specs.PathTrees.{PathTree, PathForest, leaf, link, no_trees, more_trees, joined_forests, link_unless_empty}
 use Rattle.symbols_paths.specs.DeclTargets.{DeclTargetView, defines, forwards, alias}
-use Rattle.symbols_paths.specs.PartTargets.{PartTargetView, to, itself, lacks, SearchRoutes}
-use Rattle.symbols_paths.specs.Derived.{decl_at, link_head_at, alias_link_head, part_link_head, link_head_with_parts}
+use Rattle.symbols_paths.specs.PartTargets.{PartTargetView, part_is_symbol, itself, part_is_unresolved, SearchTargets}
+use Rattle.symbols_paths.specs.Derived.{decl_of_symbol_at_index, link_head_of_forward, alias_link_head, part_link_head, link_head_with_parts}
 use Rattle.symbols_paths.specs.Choice.{is_visited, is_alias_being_resolved}
-use Rattle.symbols_paths.specs.Computed.{SearchResult, SymbolSearch, AliasSearch, first_with_paths, search_candidates, search_decl_target, search_decl_targets}
+use Rattle.symbols_paths.specs.Computed.{SearchResult, SymbolSearch, AliasSearch, first_result_with_paths, search_candidates, search_decl_target}
+use Rattle.symbols_paths.specs.Computed.{search_decl_targets}
 use Rattle.symbols_paths.specs.Computed.{search_symbol_to_depth, search_part_target, resolve_parts_in_tree, resolve_parts_in_forest, search_with_parts}
-use Rattle.symbols_paths.specs.Computed.{search_limit, resolved_alias}
+use Rattle.symbols_paths.specs.Computed.{search_limit, alias_paths_to_depth}
 use Rattle.symbols_locality.proofs.AlikeRoutes.{Marks, IsMarkedTree, IsMarkedForest, IsMarkedTarget, AreMarkedTargets, AreRoutesAlike}
 use Rattle.symbols_locality.proofs.Lists.{contains_first, contains_later}
 use Rattle.symbols_locality.proofs.MarkedForests.{joined_marked, linked_marked, missing_marked}
@@ -34,7 +35,7 @@ module _ (marks : Marks) where
   -- ---- candidates
 
   first_marked : (paths : PathForest) (found next : SearchResult) → IsMarkedForest marks found.paths → IsMarkedForest marks next.paths
-      → IsMarkedForest marks (first_with_paths paths found next).paths
+      → IsMarkedForest marks (first_result_with_paths paths found next).paths
   first_marked no_trees found next one more = more
   first_marked (more_trees t f) found next one more = one
 
@@ -46,8 +47,8 @@ module _ (marks : Marks) where
       let one = alike visited c (are c (contains_first c cs)) in
       let more = candidates_alike f g alike (f visited c).visited cs otherwise (λ d has. are d (contains_later c cs d has)) in
       record {
-        same = ap (first_with_paths (f visited c).paths (f visited c)) more.same
-            ∙ ap (λ (found : SearchResult). first_with_paths found.paths found (search_candidates g found.visited cs otherwise)) one.same;
+        same = ap (first_result_with_paths (f visited c).paths (f visited c)) more.same
+            ∙ ap (λ (found : SearchResult). first_result_with_paths found.paths found (search_candidates g found.visited cs otherwise)) one.same;
         marked = first_marked (f visited c).paths (f visited c) (search_candidates f (f visited c).visited cs otherwise) one.marked more.marked;
       }
 
@@ -62,14 +63,15 @@ module _ (marks : Marks) where
         let found = candidates_alike f g alike visited forward.candidates forward.otherwise is in
         record {
           same =
-              ap (λ (result : SearchResult). record { paths = link_unless_empty (link_head_at s i forward) result.paths; visited = result.visited }) found.same;
-          marked = linked_marked marks (link_head_at s i forward) (search_candidates f visited forward.candidates forward.otherwise).paths found.marked;
+              ap (λ (result : SearchResult). record { paths = link_unless_empty (link_head_of_forward s i forward) result.paths; visited = result.visited })
+              found.same;
+          marked = linked_marked marks (link_head_of_forward s i forward) (search_candidates f visited forward.candidates forward.otherwise).paths found.marked;
         }
     decl_target_alike visited s i (alias t ps) is =
-        let found = aliases (decl_at s i) t ps is in
+        let found = aliases (decl_of_symbol_at_index s i) t ps is in
         record {
           same = ap (λ (paths : PathForest). record { paths = link_unless_empty (alias_link_head s i ps) paths; visited = visited }) found.same;
-          marked = linked_marked marks (alias_link_head s i ps) (resolve (decl_at s i) t ps) found.marked;
+          marked = linked_marked marks (alias_link_head s i ps) (resolve (decl_of_symbol_at_index s i) t ps) found.marked;
         }
 
     decl_targets_alike : (visited : List SymbolBySpecifier) (s : SymbolBySpecifier) (i : ℕ) (xs : List DeclTargetView) → AreMarkedTargets marks s xs
@@ -91,7 +93,7 @@ module _ (marks : Marks) where
 
 -- ---- symbols
 
-module _ (r q : SearchRoutes) (marks : Marks) (alike : AreRoutesAlike r q marks) where
+module _ (r q : SearchTargets) (marks : Marks) (alike : AreRoutesAlike r q marks) where
   symbols_alike : (resolve other_resolve : AliasSearch) → AreAliasesAlike marks resolve other_resolve → (depth : ℕ)
       → AreSearchesAlike marks (search_symbol_to_depth r resolve depth) (search_symbol_to_depth q other_resolve depth)
   unfolding search_symbol_to_depth
@@ -112,16 +114,16 @@ module _ (r q : SearchRoutes) (marks : Marks) (alike : AreRoutesAlike r q marks)
   -- ---- parts
 
   part_target_alike : (f g : SymbolSearch) → AreSearchesAlike marks f g → (visited : List SymbolBySpecifier) (x : DefinitionView) (ps : QualifiedNameParts)
-      (t : PartTargetView) → marks.definition_view x → ((u : SymbolBySpecifier) → t ≡ to u → marks.symbol u)
+      (t : PartTargetView) → marks.definition_view x → ((u : SymbolBySpecifier) → t ≡ part_is_symbol u → marks.symbol u)
       → AreSameResults marks (search_part_target f visited x ps t) (search_part_target g visited x ps t)
-  part_target_alike f g same visited x ps (to u) is marked =
+  part_target_alike f g same visited x ps (part_is_symbol u) is marked =
       let found = same visited u (marked u refl) in
       record {
         same = ap (λ (result : SearchResult). record { paths = link_unless_empty (part_link_head x ps) result.paths; visited = result.visited }) found.same;
         marked = linked_marked marks (part_link_head x ps) (f visited u).paths found.marked;
       }
   part_target_alike f g same visited x ps itself is marked = record { same = refl; marked = (is, tt) }
-  part_target_alike f g same visited x ps (lacks m) is marked = record { same = refl; marked = ((tt, tt), tt) }
+  part_target_alike f g same visited x ps (part_is_unresolved m) is marked = record { same = refl; marked = ((tt, tt), tt) }
 
   module _ (f g : SymbolSearch) (same : AreSearchesAlike marks f g) (p : List ℕ) (ps : QualifiedNameParts) where
     mutual
@@ -172,14 +174,16 @@ module _ (r q : SearchRoutes) (marks : Marks) (alike : AreRoutesAlike r q marks)
 
   -- ---- aliases
 
-  aliases_alike : (depth : ℕ) (running : List DeclBySpecifier) → AreAliasesAlike marks (resolved_alias r depth running) (resolved_alias q depth running)
-  unfolding resolved_alias
+  aliases_alike : (depth : ℕ) (running : List DeclBySpecifier) → AreAliasesAlike marks (alias_paths_to_depth r depth running)
+      (alias_paths_to_depth q depth running)
+  unfolding alias_paths_to_depth
   aliases_alike zero running decl t ps is = record { same = refl; marked = tt }
   aliases_alike (suc depth) running decl t ps is =
       let deeper = aliases_alike depth (running ++ decl ∷ []) in
-      let one = search_symbol_to_depth r (resolved_alias r depth (running ++ decl ∷ [])) search_limit in
-      let other = search_symbol_to_depth q (resolved_alias q depth (running ++ decl ∷ [])) search_limit in
-      let symbols = symbols_alike (resolved_alias r depth (running ++ decl ∷ [])) (resolved_alias q depth (running ++ decl ∷ [])) deeper search_limit in
+      let one = search_symbol_to_depth r (alias_paths_to_depth r depth (running ++ decl ∷ [])) search_limit in
+      let other = search_symbol_to_depth q (alias_paths_to_depth q depth (running ++ decl ∷ [])) search_limit in
+      let symbols = symbols_alike (alias_paths_to_depth r depth (running ++ decl ∷ []))
+      (alias_paths_to_depth q depth (running ++ decl ∷ [])) deeper search_limit in
       by (is_alias_being_resolved running decl) (with_parts_alike one other symbols ps [] t is)
     where
       by : (b : Bool) {one other : SearchResult} → AreSameResults marks one other
@@ -190,10 +194,11 @@ module _ (r q : SearchRoutes) (marks : Marks) (alike : AreRoutesAlike r q marks)
   -- ---- the paths of a symbol under parts
 
   pub same_paths : (s : SymbolBySpecifier) (ps : QualifiedNameParts) → marks.symbol s
-      → (search_with_parts r (search_symbol_to_depth r (resolved_alias r search_limit []) search_limit) ps [] s).paths
-      ≡ (search_with_parts q (search_symbol_to_depth q (resolved_alias q search_limit []) search_limit) ps [] s).paths
+      → (search_with_parts r (search_symbol_to_depth r (alias_paths_to_depth r search_limit []) search_limit) ps [] s).paths
+      ≡ (search_with_parts q (search_symbol_to_depth q (alias_paths_to_depth q search_limit []) search_limit) ps [] s).paths
   same_paths s ps is =
-      let one = search_symbol_to_depth r (resolved_alias r search_limit []) search_limit in
-      let other = search_symbol_to_depth q (resolved_alias q search_limit []) search_limit in
-      let symbols = symbols_alike (resolved_alias r search_limit []) (resolved_alias q search_limit []) (aliases_alike search_limit []) search_limit in
+      let one = search_symbol_to_depth r (alias_paths_to_depth r search_limit []) search_limit in
+      let other = search_symbol_to_depth q (alias_paths_to_depth q search_limit []) search_limit in
+      let symbols = symbols_alike (alias_paths_to_depth r search_limit []) (alias_paths_to_depth q search_limit [])
+      (aliases_alike search_limit []) search_limit in
       ap (λ (result : SearchResult). result.paths) (with_parts_alike one other symbols ps [] s is).same

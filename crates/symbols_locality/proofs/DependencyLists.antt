@@ -4,11 +4,11 @@ use Rattle.std.specs.Prelude.{Contains, MatchOption}
 use Rattle.std.specs.List.{AllZip}
 use Rattle.symbols_nodes.specs.declared.deps.dep.ResolveDepsMode.{ResolveDepsMode}
 use Rattle.symbols_nodes.specs.NodeViews.{SymbolNodeView}
-use Rattle.symbols_nodes.specs.References.{SymbolDependency}
+use Rattle.symbols_nodes.specs.References.{NamespacedReference}
 use Rattle.symbols_table.specs.DeclViews.{Declaration, decl_kind_node}
 use Rattle.symbols_deps.specs.DepPaths.{ReferenceGraphStep, IsPathBefore, continues, lower_step, same_step, DependencyOccurrence, AreInPathOrder}
 use Rattle.symbols_deps.specs.DepPaths.{first_path}
-use Rattle.symbols_deps.specs.Dependencies.{without_path, start_steps_of_decl, IsDependencyList}
+use Rattle.symbols_deps.specs.Dependencies.{dependency_of_occurrence, start_steps_of_decl, IsDependencyList}
 use Rattle.symbols_deps.specs.DeclDependencies.{AreDeclDependencies}
 use Rattle.symbols_locality.proofs.Lists.{first_or_later, contains_first, contains_later, contains_nothing}
 
@@ -67,15 +67,16 @@ same_in_order (x ∷ xs) (y ∷ ys) (first_path x_first x_later) (first_path y_f
 
 -- ---- the dependencies of declarations
 
-same_list : (mode : ResolveDepsMode) (steps : List ReferenceGraphStep) (a b : List SymbolDependency) → IsDependencyList mode steps a
+same_list : (mode : ResolveDepsMode) (steps : List ReferenceGraphStep) (a b : List NamespacedReference) → IsDependencyList mode steps a
     → IsDependencyList mode steps b → a ≡ b
 same_list mode steps a b one two =
     let same : one.all ≡ two.all = same_in_order one.all two.all one.are.in_order two.are.in_order
-    (λ f has. two.are.none_missing f.path f.dependency (one.are.none_else f has))
-    (λ f has. one.are.none_missing f.path f.dependency (two.are.none_else f has)) in
-    one.listed ∙ (ap (map without_path) same ∙ sym two.listed)
+    (λ f has. two.are.has_every_dependency f.path f.dependency (one.are.are_all_dependencies f has))
+    (λ f has. one.are.has_every_dependency f.path f.dependency (two.are.are_all_dependencies f has)) in
+    one.listed ∙ (ap (map dependency_of_occurrence) same ∙ sym two.listed)
 
-same_of_decl : (mode : ResolveDepsMode) (decl : Declaration) (a b : List SymbolDependency) → AreDeclDependencies mode decl a → AreDeclDependencies mode decl b
+same_of_decl : (mode : ResolveDepsMode) (decl : Declaration) (a b : List NamespacedReference) → AreDeclDependencies mode decl a
+    → AreDeclDependencies mode decl b
     → a ≡ b
 same_of_decl mode decl a b = by (decl_kind_node decl.kind)
   where
@@ -84,7 +85,7 @@ same_of_decl mode decl a b = by (decl_kind_node decl.kind)
     by None x y = x ∙ sym y
     by (Some n) x y = same_list mode (start_steps_of_decl n) a b x y
 
-pub same_dependencies : (mode : ResolveDepsMode) (decls : List Declaration) (a b : List (List SymbolDependency))
+pub same_dependencies : (mode : ResolveDepsMode) (decls : List Declaration) (a b : List (List NamespacedReference))
     → AllZip (AreDeclDependencies mode) decls a → AllZip (AreDeclDependencies mode) decls b → a ≡ b
 same_dependencies mode [] [] [] x y = refl
 same_dependencies mode [] [] (v ∷ b) x y = absurd y

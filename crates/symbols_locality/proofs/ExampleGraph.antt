@@ -3,9 +3,9 @@
 use Rattle.std.proofs.Common.{◌≡◌, ℕ, List, [], ◌∷◌, None, Some, inl, inr, refl, ap, ◌∙◌, arith}
 use Rattle.std.proofs.lemmas.Option.{none-some, same_Some}
 use Rattle.symbols_ast.specs.Graph.{GraphView, ModuleView, esm, external, content_types_dependency}
-use Rattle.symbols_answers.specs.Questions.{QuestionView}
-use Rattle.symbols_locality.specs.Seen.{is_queried, by_types_dependency}
-use Rattle.symbols_locality.specs.QueryReach.{IsSeenByQuery, IsUnseenModule}
+use Rattle.symbols_answers.specs.Questions.{QuestionView, QueryForm}
+use Rattle.symbols_answers.specs.Seen.{queried_specifier_is_looked_up, is_requested, types_dependency_is_looked_up}
+use Rattle.symbols_answers.specs.QueryReach.{IsSpecifierLookedUpByQuery, IsModuleNotLookedUpByQuery}
 use Rattle.symbols_locality.specs.ChangedModule.{IsUnreferenced}
 use Rattle.symbols_locality.proofs.Lists.{first_or_later, only_one, contains_nothing}
 use Rattle.symbols_locality.proofs.UnseenModules.{unseen_by_query}
@@ -29,23 +29,23 @@ example = record { modules = module_a ∷ module_b ∷ []; redirects = []; resol
 same_number : (m n : ℕ) → m ∷ [] ≡ n ∷ [] → m ≡ n
 same_number m n e = cc
 
-are_two : b ≡ a → ⊥
-are_two e = omega (arith, same_number 98 97 e)
+exporters_are_different : b ≡ a → ⊥
+exporters_are_different e = omega (arith, same_number 98 97 e)
 
 a_is_unreferenced : IsUnreferenced example a
 a_is_unreferenced = record {
-  by_no_module = λ m next has types it. elim (first_or_later module_a (module_b ∷ []) m has) [
+  is_no_types_dependency = λ m next has types it. elim (first_or_later module_a (module_b ∷ []) m has) [
     | inl same ↦
         let next_is : b ≡ next = same_Some b next (ap (λ (x : ModuleView). content_types_dependency x.content) same ∙ types) in
-        are_two (next_is ∙ it)
+        exporters_are_different (next_is ∙ it)
     | inr later ↦
         none-some next (ap (λ (x : ModuleView). content_types_dependency x.content) (only_one module_b m later) ∙ types)
   ];
-  by_no_resolution = λ resolution has it. contains_nothing resolution has;
+  is_no_resolution_target = λ resolution has it. contains_nothing resolution has;
 }
 
-a_is_unseen : (question : QuestionView) → IsUnseenModule example (record { specifier = b; question = question }) a
-a_is_unseen question = unseen_by_query example (record { specifier = b; question = question }) a a_is_unreferenced are_two
+a_is_unseen : (question : QuestionView) (form : QueryForm) → IsModuleNotLookedUpByQuery example (record { specifier = b; question = question; form = form }) a
+a_is_unseen question form = unseen_by_query example (record { specifier = b; question = question; form = form }) a a_is_unreferenced exporters_are_different
 
-b_is_seen : (question : QuestionView) → IsSeenByQuery example (record { specifier = a; question = question }) b
-b_is_seen question = by_types_dependency a module_a is_queried refl refl
+b_is_seen : (question : QuestionView) (form : QueryForm) → IsSpecifierLookedUpByQuery example (record { specifier = a; question = question; form = form }) b
+b_is_seen question form = types_dependency_is_looked_up a module_a (is_requested queried_specifier_is_looked_up) refl refl

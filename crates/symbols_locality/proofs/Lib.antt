@@ -13,6 +13,7 @@ mod ComputedSearch
 mod RoutesAlike
 mod DependencyLists
 mod SameReferences
+mod SameInputs
 mod ComputedAnswers
 mod SameAnswers
 mod ChangedModule

@@ -13,7 +13,7 @@ use Rattle.symbols_nodes.specs.NodeTests.{is_class}
 use Rattle.symbols_table.specs.DeclViews.{all_names, one_name, FileDepView, DeclKindView, target, qualified_target, file_ref, definition, Declaration}
 use Rattle.symbols_table.specs.DeclViews.{decl_node_satisfies}
 use Rattle.symbols_table.specs.SymbolViews.{SymbolView, symbol_after_changes}
-use Rattle.symbols_table.specs.Changes.{Change, exports_after, mapped_symbol_after}
+use Rattle.symbols_table.specs.Changes.{Change, exports_after, symbol_of_ident_after_changes}
 use Rattle.symbols_root.specs.declared.rules.Rules.{Rules}
 use Rattle.symbols_root.specs.GraphModules.{changes_of_module}
 use Rattle.symbols_exports.specs.ExportAnswers.{AreExportListsCorrectAndUnique}
@@ -23,11 +23,12 @@ use Rattle.symbols_exports.specs.StarStatements.{star_specifiers, resolve_specif
 use Rattle.symbols_exports.specs.Traces.{exports_of}
 use Rattle.symbols_paths.specs.PathTrees.{SymbolBySpecifier, DeclBySpecifier, QualifiedNameParts, no_part}
 use Rattle.symbols_paths.specs.DeclTargets.{forwards, symbol_of_id, explicit_export, re_exported_symbol, re_exported_symbols, searches_stars_for}
-use Rattle.symbols_paths.specs.DeclTargets.{re_exported_symbols_by_rules, forward_into_module, import_forward, same_module_forward, alias_target}
+use Rattle.symbols_paths.specs.DeclTargets.{re_exported_symbols_by_rules, forward_into_module, forward_of_import, forward_within_module, alias_target}
 use Rattle.symbols_paths.specs.DeclTargets.{target_of_decl, declarations_of}
-use Rattle.symbols_paths.specs.PartTargets.{to, itself, lacks, export_of_symbol, prototype_name, is_class_at, exported_part_target, module_part_target}
-use Rattle.symbols_paths.specs.PartTargets.{import_part_target, definition_part_target, routes_of}
-use Rattle.symbols_locality.specs.Seen.{FollowedSpecifiers, AreAlikeWhereSeen}
+use Rattle.symbols_paths.specs.PartTargets.{part_is_symbol, itself, part_is_unresolved, export_of_symbol, prototype_name, is_class_decl_at}
+use Rattle.symbols_paths.specs.PartTargets.{exported_part_target, module_part_target}
+use Rattle.symbols_paths.specs.PartTargets.{import_part_target, definition_part_target, search_targets_of}
+use Rattle.symbols_answers.specs.Seen.{FollowedSpecifiers, AreAlikeWhereLookedUp}
 use Rattle.symbols_locality.proofs.FoundModules.{IsFound}
 use Rattle.symbols_locality.proofs.AlikeRoutes.{Marks, IsMarkedTarget, AreMarkedTargets, AreRoutesAlike}
 use Rattle.symbols_locality.proofs.SearchMarks.{FollowsStars, FollowsImports, marks_of}
@@ -36,7 +37,7 @@ use Rattle.symbols_locality.proofs.Lists.{same_filtered}
 use Rattle.symbols_locality.proofs.SeenAlike.{same_changes, same_star_targets, same_target, target_found}
 use Rattle.symbols_locality.proofs.ExportViews.{same_exports, exporter_found}
 
-module _ (rules : Rules) (graph other : GraphView) (Follows : FollowedSpecifiers) (queried : List ℕ) (alike : AreAlikeWhereSeen graph other Follows queried)
+module _ (rules : Rules) (graph other : GraphView) (Follows : FollowedSpecifiers) (queried : List ℕ) (alike : AreAlikeWhereLookedUp graph other Follows queried)
     (stars : FollowsStars graph Follows queried) (imports : FollowsImports graph Follows queried)
     (listed : (start : List ℕ) → AreExportListsCorrectAndUnique graph start)
     (other_listed : (start : List ℕ) → AreExportListsCorrectAndUnique other start) where
@@ -125,20 +126,21 @@ module _ (rules : Rules) (graph other : GraphView) (Follows : FollowedSpecifiers
   into_found s name v at None c has = re_exported_found name v at c has
 
   import_same : (s : SymbolBySpecifier) (name specifier_text : List ℕ) → Found s.specifier → Follows s.specifier specifier_text
-      → import_forward rules graph s name specifier_text (resolve_specifier graph s.specifier specifier_text) ≡ import_forward rules other s name specifier_text
+      → forward_of_import rules graph s name specifier_text (resolve_specifier graph s.specifier specifier_text)
+      ≡ forward_of_import rules other s name specifier_text
       (resolve_specifier other s.specifier specifier_text)
   import_same s name specifier_text at follows =
       by (resolve_specifier graph s.specifier specifier_text) refl
-      ∙ ap (import_forward rules other s name specifier_text) (same_target graph other Follows queried alike s.specifier specifier_text at follows)
+      ∙ ap (forward_of_import rules other s name specifier_text) (same_target graph other Follows queried alike s.specifier specifier_text at follows)
     where
       by : (found : Option (List ℕ)) → resolve_specifier graph s.specifier specifier_text ≡ found
-          → import_forward rules graph s name specifier_text found ≡ import_forward rules other s name specifier_text found
+          → forward_of_import rules graph s name specifier_text found ≡ forward_of_import rules other s name specifier_text found
       by None is = refl
       by (Some v) is = into_same s name v (target_found graph Follows queried s.specifier specifier_text v at follows is)
 
   import_found : (s : SymbolBySpecifier) (name specifier_text : List ℕ) → Found s.specifier → Follows s.specifier specifier_text → (found : Option (List ℕ))
       → resolve_specifier graph s.specifier specifier_text ≡ found → (c : SymbolBySpecifier)
-      → Contains (import_forward rules graph s name specifier_text found).candidates c → Found c.specifier
+      → Contains (forward_of_import rules graph s name specifier_text found).candidates c → Found c.specifier
   import_found s name specifier_text at follows None is c has = absurd (contains_nothing c has)
   import_found s name specifier_text at follows (Some v) is c has =
       into_found s name v (target_found graph Follows queried s.specifier specifier_text v at follows is) (explicit_export graph v name) c has
@@ -154,14 +156,16 @@ module _ (rules : Rules) (graph other : GraphView) (Follows : FollowedSpecifiers
       by (file_ref all_names specifier_text) is = refl
       by (file_ref (one_name name) specifier_text) is =
           ap forwards (import_same s name specifier_text at (imports s decl (one_name name) specifier_text at has is))
-      by (target id) is = ap (λ (changes : List Change). forwards (same_module_forward s (mapped_symbol_after changes id))) (changes_same s.specifier at)
-      by (qualified_target id parts) is = ap (λ (changes : List Change). alias_target s id parts (mapped_symbol_after changes id)) (changes_same s.specifier at)
+      by (target id) is = ap (λ (changes : List Change). forwards (forward_within_module s (symbol_of_ident_after_changes changes id)))
+          (changes_same s.specifier at)
+      by (qualified_target id parts) is = ap (λ (changes : List Change). alias_target s id parts (symbol_of_ident_after_changes changes id))
+          (changes_same s.specifier at)
 
   abbrev marks : Marks
   marks = marks_of graph Follows queried
 
   same_module_marked : (s : SymbolBySpecifier) → Found s.specifier → (t : Option SymbolId) → (c : SymbolBySpecifier)
-      → Contains (same_module_forward s t).candidates c → Found c.specifier
+      → Contains (forward_within_module s t).candidates c → Found c.specifier
   same_module_marked s at None c has = absurd (contains_nothing c has)
   same_module_marked s at (Some t) c has =
       subst (λ (d : SymbolBySpecifier). Found d.specifier) (only_one (record { specifier = s.specifier; number = t }) c has) at
@@ -208,7 +212,8 @@ module _ (rules : Rules) (graph other : GraphView) (Follows : FollowedSpecifiers
       by (Some u) = refl
       by None =
           ap (λ (decls : List Declaration). if bytes_eq prototype_name p && option_map_or (decl_node_satisfies is_class)
-          (slice_get decls decl.index) false then itself else lacks (record { specifier = decl.symbol.specifier; reason = no_part p; parts = p ∷ ps }))
+          (slice_get decls decl.index) false then itself else part_is_unresolved
+          (record { specifier = decl.symbol.specifier; reason = no_part p; parts = p ∷ ps }))
           (declarations_same decl.symbol at)
 
   pub import_part_same : (u specifier_text p : List ℕ) (ps : QualifiedNameParts) → Found u → Follows u specifier_text
@@ -224,38 +229,40 @@ module _ (rules : Rules) (graph other : GraphView) (Follows : FollowedSpecifiers
       by (Some v) is = ap (module_part_target v p ps) (named_same v p (target_found graph Follows queried u specifier_text v at follows is))
 
   pub import_part_found : (u specifier_text p : List ℕ) (ps : QualifiedNameParts) → Found u → Follows u specifier_text → (t : SymbolBySpecifier)
-      → import_part_target graph u specifier_text p ps (resolve_specifier graph u specifier_text) ≡ to t → Found t.specifier
+      → import_part_target graph u specifier_text p ps (resolve_specifier graph u specifier_text) ≡ part_is_symbol t → Found t.specifier
   import_part_found u specifier_text p ps at follows t e = by (resolve_specifier graph u specifier_text) refl e
     where
-      of_entry : (v : List ℕ) → Found v → (entry : Option ExportEntry) → find_export graph v p ≡ entry → module_part_target v p ps entry ≡ to t
+      of_entry : (v : List ℕ) → Found v → (entry : Option ExportEntry) → find_export graph v p ≡ entry → module_part_target v p ps entry ≡ part_is_symbol t
           → Found t.specifier
       of_entry v v_at None is e = absurd cc
       of_entry v v_at (Some entry) is e =
           let same : record { specifier = entry.exporter; number = entry.symbol } ≡ t = cc in
           subst (λ (d : SymbolBySpecifier). Found d.specifier) same (named_found v p entry v_at is)
 
-      by : (found : Option (List ℕ)) → resolve_specifier graph u specifier_text ≡ found → import_part_target graph u specifier_text p ps found ≡ to t
+      by : (found : Option (List ℕ)) → resolve_specifier graph u specifier_text ≡ found → import_part_target graph u specifier_text p ps found
+          ≡ part_is_symbol t
           → Found t.specifier
       by None is e = absurd cc
       by (Some v) is e = of_entry v (target_found graph Follows queried u specifier_text v at follows is) (find_export graph v p) refl e
 
   exported_part_found : (decl : DeclBySpecifier) (p : List ℕ) (ps : QualifiedNameParts) → Found decl.symbol.specifier → (t : SymbolBySpecifier)
-      → exported_part_target graph decl p ps (export_of_symbol graph decl.symbol p) ≡ to t → Found t.specifier
+      → exported_part_target graph decl p ps (export_of_symbol graph decl.symbol p) ≡ part_is_symbol t → Found t.specifier
   exported_part_found decl p ps at t e = by (export_of_symbol graph decl.symbol p) e
     where
-      never : (b : Bool) → (if b then itself else lacks (record { specifier = decl.symbol.specifier; reason = no_part p; parts = p ∷ ps })) ≡ to t → ⊥
+      never : (b : Bool) → (if b then itself else part_is_unresolved (record { specifier = decl.symbol.specifier; reason = no_part p; parts = p ∷ ps }))
+          ≡ part_is_symbol t → ⊥
       never true e = cc
       never false e = cc
 
-      by : (u : Option SymbolId) → exported_part_target graph decl p ps u ≡ to t → Found t.specifier
+      by : (u : Option SymbolId) → exported_part_target graph decl p ps u ≡ part_is_symbol t → Found t.specifier
       by (Some u) e =
           let same : record { specifier = decl.symbol.specifier; number = u } ≡ t = cc in
           subst (λ (d : SymbolBySpecifier). Found d.specifier) same at
-      by None e = absurd (never (bytes_eq prototype_name p && is_class_at graph decl) e)
+      by None e = absurd (never (bytes_eq prototype_name p && is_class_decl_at graph decl) e)
 
   -- ---- the routes of a search
 
-  pub routes_alike : AreRoutesAlike (routes_of rules graph) (routes_of rules other) marks
+  pub routes_alike : AreRoutesAlike (search_targets_of rules graph) (search_targets_of rules other) marks
   routes_alike = record {
     same_targets =
         λ s at. same_map (λ (decl : Declaration). target_of_decl rules graph s decl.range decl.kind)
@@ -274,6 +281,6 @@ module _ (rules : Rules) (graph other : GraphView) (Follows : FollowedSpecifiers
 
       part_found : (decl : DeclBySpecifier) (p : List ℕ) (ps : QualifiedNameParts) → Found decl.symbol.specifier → (star : Option FileDepView)
           → IfSome star (λ (dep : FileDepView). Follows decl.symbol.specifier dep.specifier) → (t : SymbolBySpecifier)
-          → definition_part_target graph decl p ps star ≡ to t → Found t.specifier
+          → definition_part_target graph decl p ps star ≡ part_is_symbol t → Found t.specifier
       part_found decl p ps at None follows t e = exported_part_found decl p ps at t e
       part_found decl p ps at (Some dep) follows t e = import_part_found decl.symbol.specifier dep.specifier p ps at follows t e

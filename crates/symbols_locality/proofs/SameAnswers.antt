@@ -8,7 +8,7 @@ use Rattle.symbols_ast.specs.Graph.{GraphView, ModuleView}
 use Rattle.symbols_ast.specs.Ids.{IdView}
 use Rattle.symbols_nodes.specs.declared.deps.dep.ResolveDepsMode.{ResolveDepsMode}
 use Rattle.symbols_nodes.specs.References.{SymbolReference}
-use Rattle.symbols_table.specs.Changes.{Change, mapped_symbol_after}
+use Rattle.symbols_table.specs.Changes.{Change, symbol_of_ident_after_changes}
 use Rattle.symbols_table.specs.QualifiedNames.{qualified_name}
 use Rattle.symbols_table.specs.SymbolViews.{SymbolView, symbol_after_changes}
 use Rattle.symbols_deps.specs.DeclDependencies.{AreDeclDependencies}
@@ -17,38 +17,40 @@ use Rattle.symbols_root.specs.GraphModules.{changes_of_module, symbol_in_module}
 use Rattle.symbols_root.specs.TypesChains.{types_chain, get_prefer_types, resolved_module_specifier}
 use Rattle.symbols_exports.specs.ExportAnswers.{AreExportListsCorrectAndUnique}
 use Rattle.symbols_exports.specs.Exports.{ExportEntry}
-use Rattle.symbols_exports.specs.SharedNameLists.{shared_names_of, shared_name_entry_view}
-use Rattle.symbols_exports.specs.ExportViews.{entry_export_view, star_statement_view}
+use Rattle.symbols_exports.specs.SharedNameLists.{shared_names_of, shared_name_view_of_entry}
+use Rattle.symbols_exports.specs.ExportViews.{export_view_of_entry, star_statement_view}
 use Rattle.symbols_exports.specs.Traces.{exports_of, unresolved_stars_of}
 use Rattle.symbols_paths.specs.PathTrees.{SymbolBySpecifier, QualifiedNameParts, PathForest, leaves_of_forest, definitions_among}
-use Rattle.symbols_paths.specs.PartTargets.{routes_of}
+use Rattle.symbols_paths.specs.PartTargets.{search_targets_of}
 use Rattle.symbols_paths.specs.Choice.{IsForestFoundBySearchWithParts}
-use Rattle.symbols_paths.specs.Answers.{ArePathsFor}
-use Rattle.symbols_paths.specs.DepAnswers.{DepEntryView, path_entries, ReferencedSymbol, referenced_symbol, entries_without_symbol, IsDepAnswer}
+use Rattle.symbols_paths.specs.Answers.{AreDefinitionPathsWithAnyParts}
+use Rattle.symbols_paths.specs.DepAnswers.{DepEntryView, path_entries, ReferencedSymbolWithParts, referenced_symbol, entries_of_reference_without_symbol}
+use Rattle.symbols_paths.specs.DepAnswers.{AreResolvedEntriesOfReference}
 use Rattle.symbols_answers.specs.Questions.{QuestionView, query_module, query_exports, query_names, query_symbol, query_name}
-use Rattle.symbols_answers.specs.Questions.{query_deps, query_paths, query_definitions, query_leaves, query_resolve, QueryView}
+use Rattle.symbols_answers.specs.Questions.{query_deps, query_paths, query_definitions, query_leaves, query_resolve, QueryForm, for_answer, for_inputs, QueryView}
 use Rattle.symbols_answers.specs.Answers.{AnswerView, answer_no_module, answer_exports, answer_names, answer_symbol}
-use Rattle.symbols_answers.specs.Answers.{answer_name, answer_deps, answer_paths, answer_definitions, answer_leaves, answer_resolve}
+use Rattle.symbols_answers.specs.Answers.{answer_name, answer_deps, answer_paths, answer_definitions, answer_leaves, answer_resolve, answer_inputs}
 use Rattle.symbols_answers.specs.QueryAnswers.{some_if_strict}
 use Rattle.symbols_answers.specs.Meanings.{IsAnswerOfExports, public_names_of_entries, IsAnswerOfPublicNames, IsAnswerOfDeps, IsAnswerOfPaths}
-use Rattle.symbols_answers.specs.Meanings.{IsAnswerToQuestion, last_analyzable_module, IsAnswerToQuery}
-use Rattle.symbols_locality.specs.Seen.{FollowedSpecifiers, StarSpecifiers, is_queried, AreAlikeWhereSeen}
+use Rattle.symbols_answers.specs.Meanings.{IsAnswerToQuestion, last_analyzable_module, IsAnswerOnModule, IsAnswerInForm, IsAnswerToQuery}
+use Rattle.symbols_answers.specs.Seen.{FollowedSpecifiers, StarSpecifiers, queried_specifier_is_looked_up, is_requested, AreAlikeWhereLookedUp}
 use Rattle.symbols_locality.proofs.FoundModules.{IsFound}
 use Rattle.symbols_locality.proofs.SearchMarks.{FollowsStars, marks_of}
-use Rattle.symbols_locality.specs.QueryReach.{IsFollowedBySearch, of_reference, followed_by_question, AreAlikeForQuery}
-use Rattle.symbols_root.specs.laws.TypesChains.{only_chain}
-use Rattle.symbols_paths.specs.laws.OneOutcome.{chosen_once}
-use Rattle.symbols_locality.proofs.SeenAlike.{same_chain, resolved_module_found, same_changes}
+use Rattle.symbols_answers.specs.QueryReach.{IsFollowedBySearch, import_type_specifier_is_followed, specifiers_followed_by_question, AreAlikeForQuery}
+use Rattle.symbols_root.specs.laws.TypesChains.{types_chain_is_unique}
+use Rattle.symbols_paths.specs.laws.OneOutcome.{found_forest_is_unique}
+use Rattle.symbols_locality.proofs.SeenAlike.{same_chain, same_changes}
 use Rattle.symbols_locality.proofs.ExportViews.{same_export_views, same_unresolved_views, same_shared_name_views, same_names}
 use Rattle.symbols_locality.proofs.CarriedSearch.{chosen_there}
 use Rattle.symbols_locality.proofs.DependencyLists.{same_dependencies}
+use Rattle.symbols_locality.proofs.SameInputs.{inputs_same}
 use Rattle.symbols_locality.proofs.SameReferences.{routes, IsReferenceFollowed, referenced_same, referenced_found, without_symbol_same}
 
 -- ---- paths
 
 module _ (rules : Rules) (graph other : GraphView) (listed : (start : List ℕ) → AreExportListsCorrectAndUnique graph start)
     (other_listed : (start : List ℕ) → AreExportListsCorrectAndUnique other start) (queried : List ℕ) (question : QuestionView)
-    (alike : AreAlikeWhereSeen graph other (IsFollowedBySearch graph queried question) queried) where
+    (alike : AreAlikeWhereLookedUp graph other (IsFollowedBySearch graph queried question) queried) where
   abbrev Follows : FollowedSpecifiers
   Follows = IsFollowedBySearch graph queried question
 
@@ -56,30 +58,31 @@ module _ (rules : Rules) (graph other : GraphView) (listed : (start : List ℕ) 
   Found v = IsFound graph Follows queried v
 
   chosen_same : (s : SymbolBySpecifier) (ps : QualifiedNameParts) → Found s.specifier → (f g : PathForest)
-      → IsForestFoundBySearchWithParts (routes_of rules graph) s ps f → IsForestFoundBySearchWithParts (routes_of rules other) s ps g → f ≡ g
+      → IsForestFoundBySearchWithParts (search_targets_of rules graph) s ps f → IsForestFoundBySearchWithParts (search_targets_of rules other) s ps g → f ≡ g
   chosen_same s ps at f g one two =
-      chosen_once (routes_of rules other) s ps f g
-      (chosen_there (routes_of rules graph) (routes_of rules other) (marks_of graph Follows queried)
+      found_forest_is_unique (search_targets_of rules other) s ps f g
+      (chosen_there (search_targets_of rules graph) (search_targets_of rules other) (marks_of graph Follows queried)
       (routes rules graph other listed other_listed queried question alike) s ps f at one) two
 
   paths_same : (v : List ℕ) → Found v → (s : SymbolId) (answer_of : PathForest → AnswerView) (a b : AnswerView)
       → IsAnswerOfPaths rules graph v s answer_of a → IsAnswerOfPaths rules other v s answer_of b → a ≡ b
   paths_same v at s answer_of a b x y =
-      x.is ∙ (ap answer_of (chosen_same (record { specifier = v; number = s }) [] at x.paths y.paths x.are_paths.chosen y.are_paths.chosen) ∙ sym y.is)
+      x.answer_is ∙ (ap answer_of (chosen_same (record { specifier = v; number = s }) [] at x.paths y.paths x.are_paths.is_found_by_search
+      y.are_paths.is_found_by_search) ∙ sym y.answer_is)
 
   -- ---- references
 
-  chosen_for : (g : GraphView) (s : SymbolBySpecifier) (ps : QualifiedNameParts) (f : PathForest) → ArePathsFor rules g s ps f
-      → IsForestFoundBySearchWithParts (routes_of rules g) s ps f
-  chosen_for g s [] f are = are.chosen
-  chosen_for g s (p ∷ ps) f are = are.chosen
+  chosen_for : (g : GraphView) (s : SymbolBySpecifier) (ps : QualifiedNameParts) (f : PathForest) → AreDefinitionPathsWithAnyParts rules g s ps f
+      → IsForestFoundBySearchWithParts (search_targets_of rules g) s ps f
+  chosen_for g s [] f are = are.is_found_by_search
+  chosen_for g s (p ∷ ps) f are = are.is_found_by_search
 
   -- the entries of a reference, by its symbol if it has one
-  abbrev AreEntriesFor : GraphView → List DepEntryView → List DepEntryView → Option ReferencedSymbol → Type 0
+  abbrev AreEntriesFor : GraphView → List DepEntryView → List DepEntryView → Option ReferencedSymbolWithParts → Type 0
   AreEntriesFor g without_symbol entries referenced = MatchOption referenced (entries ≡ without_symbol)
-      (λ (t : ReferencedSymbol). (paths : PathForest) × ArePathsFor rules g t.0 t.1 paths × (entries ≡ path_entries paths))
+      (λ (t : ReferencedSymbolWithParts). (paths : PathForest) × AreDefinitionPathsWithAnyParts rules g t.0 t.1 paths × (entries ≡ path_entries paths))
 
-  entries_same : (referenced : Option ReferencedSymbol) → ((t : ReferencedSymbol) → referenced ≡ Some t → Found t.0.specifier)
+  entries_same : (referenced : Option ReferencedSymbolWithParts) → ((t : ReferencedSymbolWithParts) → referenced ≡ Some t → Found t.0.specifier)
       → (here there a b : List DepEntryView) → here ≡ there → AreEntriesFor graph here a referenced → AreEntriesFor other there b referenced → a ≡ b
   entries_same None are here there a b same x y = x ∙ (same ∙ sym y)
   entries_same (Some t) are here there a b same x y =
@@ -87,60 +90,61 @@ module _ (rules : Rules) (graph other : GraphView) (listed : (start : List ℕ) 
 
   dep_entries_same : (v : List ℕ) → Found v → (reference : SymbolReference)
       → IsReferenceFollowed rules graph other listed other_listed queried question alike v reference → (a b : List DepEntryView)
-      → IsDepAnswer rules graph v reference a → IsDepAnswer rules other v reference b → a ≡ b
+      → AreResolvedEntriesOfReference rules graph v reference a → AreResolvedEntriesOfReference rules other v reference b → a ≡ b
   dep_entries_same v at reference follows a b x y =
       entries_same (referenced_symbol graph v reference)
       (referenced_found rules graph other listed other_listed queried question alike v at reference follows)
-      (entries_without_symbol graph v reference) (entries_without_symbol other v reference) a b
+      (entries_of_reference_without_symbol graph v reference) (entries_of_reference_without_symbol other v reference) a b
       (without_symbol_same rules graph other listed other_listed queried question alike v at reference follows) x
-      (subst (AreEntriesFor other (entries_without_symbol other v reference) b)
+      (subst (AreEntriesFor other (entries_of_reference_without_symbol other v reference) b)
       (sym (referenced_same rules graph other listed other_listed queried question alike v at reference follows)) y)
 
 -- ---- exports and public names
 
 module _ (rules : Rules) (graph other : GraphView) (listed : (start : List ℕ) → AreExportListsCorrectAndUnique graph start)
     (other_listed : (start : List ℕ) → AreExportListsCorrectAndUnique other start) (queried : List ℕ)
-    (alike : AreAlikeWhereSeen graph other (StarSpecifiers graph) queried) where
+    (alike : AreAlikeWhereLookedUp graph other (StarSpecifiers graph) queried) where
   stars : FollowsStars graph (StarSpecifiers graph) queried
   stars v specifier_text at has = has
 
   exports_same : (v : List ℕ) → IsFound graph (StarSpecifiers graph) queried v → (a b : AnswerView) → IsAnswerOfExports rules graph v a
       → IsAnswerOfExports rules other v b → a ≡ b
   exports_same v at a b x y =
-      let exports_here : x.entries ≡ exports_of graph v = (listed v).only_exports x.entries x.are_exports in
-      let exports_there : y.entries ≡ exports_of other v = (other_listed v).only_exports y.entries y.are_exports in
-      let shared_here : x.shared ≡ shared_names_of graph v = (listed v).only_shared x.shared x.are_shared in
-      let shared_there : y.shared ≡ shared_names_of other v = (other_listed v).only_shared y.shared y.are_shared in
+      let exports_here : x.entries ≡ exports_of graph v = (listed v).exports_are_unique x.entries x.are_exports in
+      let exports_there : y.entries ≡ exports_of other v = (other_listed v).exports_are_unique y.entries y.are_exports in
+      let shared_here : x.shared ≡ shared_names_of graph v = (listed v).shared_are_unique x.shared x.are_shared in
+      let shared_there : y.shared ≡ shared_names_of other v = (other_listed v).shared_are_unique y.shared y.are_shared in
       let unresolved_here : x.unresolved ≡ unresolved_stars_of graph v = (listed v).unresolved_are_unique x.unresolved x.are_unresolved in
       let unresolved_there : y.unresolved ≡ unresolved_stars_of other v = (other_listed v).unresolved_are_unique y.unresolved y.are_unresolved in
-      let exports : map (entry_export_view graph v) x.entries ≡ map (entry_export_view other v) y.entries = ap (map (entry_export_view graph v)) exports_here
+      let exports : map (export_view_of_entry graph v) x.entries ≡ map (export_view_of_entry other v) y.entries = ap
+      (map (export_view_of_entry graph v)) exports_here
       ∙ (same_export_views graph other (StarSpecifiers graph) queried alike stars v at (listed v) (other_listed v)
-      ∙ ap (map (entry_export_view other v)) (sym exports_there)) in
-      let shared : map (shared_name_entry_view graph v) x.shared ≡ map (shared_name_entry_view other v) y.shared =
-      ap (map (shared_name_entry_view graph v)) shared_here
+      ∙ ap (map (export_view_of_entry other v)) (sym exports_there)) in
+      let shared : map (shared_name_view_of_entry graph v) x.shared ≡ map (shared_name_view_of_entry other v) y.shared =
+      ap (map (shared_name_view_of_entry graph v)) shared_here
       ∙ (same_shared_name_views graph other (StarSpecifiers graph) queried alike stars v at (listed v) (other_listed v)
-      ∙ ap (map (shared_name_entry_view other v)) (sym shared_there)) in
+      ∙ ap (map (shared_name_view_of_entry other v)) (sym shared_there)) in
       let unresolved : map (star_statement_view graph) x.unresolved ≡ map (star_statement_view other) y.unresolved =
       ap (map (star_statement_view graph)) unresolved_here
       ∙ (same_unresolved_views graph other (StarSpecifiers graph) queried alike stars v at (listed v) (other_listed v)
       ∙ ap (map (star_statement_view other)) (sym unresolved_there)) in
-      x.is ∙ ((λ i. answer_exports (exports i) (some_if_strict rules (shared i)) (unresolved i)) ∙ sym y.is)
+      x.answer_is ∙ ((λ i. answer_exports (exports i) (some_if_strict rules (shared i)) (unresolved i)) ∙ sym y.answer_is)
 
   names_same : (v : List ℕ) → IsFound graph (StarSpecifiers graph) queried v → (a b : AnswerView) → IsAnswerOfPublicNames graph v a
       → IsAnswerOfPublicNames other v b → a ≡ b
   names_same v at a b x y =
-      let exports_here : x.entries ≡ exports_of graph v = (listed v).only_exports x.entries x.are_exports in
-      let exports_there : y.entries ≡ exports_of other v = (other_listed v).only_exports y.entries y.are_exports in
-      x.is ∙ (ap (λ (entries : List ExportEntry). answer_names (public_names_of_entries graph entries)) exports_here
+      let exports_here : x.entries ≡ exports_of graph v = (listed v).exports_are_unique x.entries x.are_exports in
+      let exports_there : y.entries ≡ exports_of other v = (other_listed v).exports_are_unique y.entries y.are_exports in
+      x.answer_is ∙ (ap (λ (entries : List ExportEntry). answer_names (public_names_of_entries graph entries)) exports_here
       ∙ (ap answer_names (same_names graph other (StarSpecifiers graph) queried alike stars v at (listed v) (other_listed v))
-      ∙ (ap (λ (entries : List ExportEntry). answer_names (public_names_of_entries other entries)) (sym exports_there) ∙ sym y.is)))
+      ∙ (ap (λ (entries : List ExportEntry). answer_names (public_names_of_entries other entries)) (sym exports_there) ∙ sym y.answer_is)))
 
 -- ---- the queried module alone
 
 module _ (graph other : GraphView) (v : List ℕ) (same : changes_of_module graph v ≡ changes_of_module other v) where
-  symbol_same : (name : IdView) (a b : AnswerView) → a ≡ answer_symbol (mapped_symbol_after (changes_of_module graph v) name)
-      → b ≡ answer_symbol (mapped_symbol_after (changes_of_module other v) name) → a ≡ b
-  symbol_same name a b x y = x ∙ (ap (λ (changes : List Change). answer_symbol (mapped_symbol_after changes name)) same ∙ sym y)
+  symbol_same : (name : IdView) (a b : AnswerView) → a ≡ answer_symbol (symbol_of_ident_after_changes (changes_of_module graph v) name)
+      → b ≡ answer_symbol (symbol_of_ident_after_changes (changes_of_module other v) name) → a ≡ b
+  symbol_same name a b x y = x ∙ (ap (λ (changes : List Change). answer_symbol (symbol_of_ident_after_changes changes name)) same ∙ sym y)
 
   name_same : (s : SymbolId) (a b : AnswerView) → a ≡ answer_name (qualified_name (symbol_in_module graph v) s)
       → b ≡ answer_name (qualified_name (symbol_in_module other v) s) → a ≡ b
@@ -150,24 +154,24 @@ module _ (graph other : GraphView) (v : List ℕ) (same : changes_of_module grap
   deps_same : (s : SymbolId) (mode : ResolveDepsMode) (a b : AnswerView) → IsAnswerOfDeps graph v s mode a → IsAnswerOfDeps other v s mode b → a ≡ b
   deps_same s mode a b x y =
       let symbols : x.symbol ≡ y.symbol = same_Some x.symbol y.symbol
-      (sym x.in_module ∙ (ap (λ (changes : List Change). symbol_after_changes changes s) same ∙ y.in_module)) in
-      let lists : x.lists ≡ y.lists = same_dependencies mode y.symbol.decls x.lists y.lists
-      (subst (λ (symbol : SymbolView). AllZip (AreDeclDependencies mode) symbol.decls x.lists) symbols x.are_dependencies) y.are_dependencies in
-      x.is ∙ (ap answer_deps lists ∙ sym y.is)
+      (sym x.symbol_is_in_module ∙ (ap (λ (changes : List Change). symbol_after_changes changes s) same ∙ y.symbol_is_in_module)) in
+      let lists : x.lists_of_declarations ≡ y.lists_of_declarations = same_dependencies mode y.symbol.decls x.lists_of_declarations y.lists_of_declarations
+      (subst (λ (symbol : SymbolView). AllZip (AreDeclDependencies mode) symbol.decls x.lists_of_declarations) symbols x.are_dependencies) y.are_dependencies in
+      x.answer_is ∙ (ap answer_deps lists ∙ sym y.answer_is)
 
 -- ---- all forms of questions
 
 module _ (rules : Rules) (graph other : GraphView) (listed : (start : List ℕ) → AreExportListsCorrectAndUnique graph start)
     (other_listed : (start : List ℕ) → AreExportListsCorrectAndUnique other start) (queried : List ℕ) where
   found : (question : QuestionView) (v : List ℕ) → resolved_module_specifier graph queried ≡ Some v
-      → IsFound graph (followed_by_question graph queried question) queried v
-  found question v is = resolved_module_found graph (followed_by_question graph queried question) queried queried is_queried v is
+      → IsFound graph (specifiers_followed_by_question graph queried question) queried v
+  found question v is = record { key = queried; requested = queried_specifier_is_looked_up; resolves = is }
 
-  changes_same : (question : QuestionView) → AreAlikeWhereSeen graph other (followed_by_question graph queried question) queried → (v : List ℕ)
+  changes_same : (question : QuestionView) → AreAlikeWhereLookedUp graph other (specifiers_followed_by_question graph queried question) queried → (v : List ℕ)
       → resolved_module_specifier graph queried ≡ Some v → changes_of_module graph v ≡ changes_of_module other v
-  changes_same question alike v is = same_changes graph other (followed_by_question graph queried question) queried alike v (found question v is)
+  changes_same question alike v is = same_changes graph other (specifiers_followed_by_question graph queried question) queried alike v (found question v is)
 
-  question_same : (question : QuestionView) → AreAlikeWhereSeen graph other (followed_by_question graph queried question) queried → (v : List ℕ)
+  question_same : (question : QuestionView) → AreAlikeWhereLookedUp graph other (specifiers_followed_by_question graph queried question) queried → (v : List ℕ)
       → resolved_module_specifier graph queried ≡ Some v → (a b : AnswerView) → IsAnswerToQuestion rules graph v question a
       → IsAnswerToQuestion rules other v question b → a ≡ b
   question_same query_module alike v is a b x y = x ∙ sym y
@@ -186,29 +190,31 @@ module _ (rules : Rules) (graph other : GraphView) (listed : (start : List ℕ) 
       (λ paths. answer_leaves (leaves_of_forest paths)) a b x y
   question_same (query_resolve reference) alike v is a b x y =
       let entries : x.entries ≡ y.entries = dep_entries_same rules graph other listed other_listed queried (query_resolve reference) alike v
-      (found (query_resolve reference) v is) reference (λ specifier_text parts same. of_reference parts is (ap query_resolve same)) x.entries y.entries
+      (found (query_resolve reference) v is) reference (λ specifier_text parts same. import_type_specifier_is_followed parts is
+      (ap query_resolve same)) x.entries y.entries
       x.are_dep_entries y.are_dep_entries in
-      x.is ∙ (ap answer_resolve entries ∙ sym y.is)
+      x.answer_is ∙ (ap answer_resolve entries ∙ sym y.answer_is)
 
 -- ---- queries
 
-pub same_answer : (rules : Rules) (graph other : GraphView) → ((start : List ℕ) → AreExportListsCorrectAndUnique graph start)
+same_module_answer : (rules : Rules) (graph other : GraphView) → ((start : List ℕ) → AreExportListsCorrectAndUnique graph start)
     → ((start : List ℕ) → AreExportListsCorrectAndUnique other start) → (query : QueryView) → AreAlikeForQuery graph other query → (a b : AnswerView)
-    → IsAnswerToQuery rules graph query a → IsAnswerToQuery rules other query b → a ≡ b
-same_answer rules graph other listed other_listed query alike a b x y =
-    by (get_prefer_types graph query.specifier) refl (subst (λ chain. Means graph a (last_analyzable_module chain)) chain_here x.means)
-    (subst (λ chain. Means other b (last_analyzable_module chain)) chain_there y.means)
+    → IsAnswerOnModule rules graph query a → IsAnswerOnModule rules other query b → a ≡ b
+same_module_answer rules graph other listed other_listed query alike a b x y =
+    by (get_prefer_types graph query.specifier) refl (subst (λ chain. Means graph a (last_analyzable_module chain)) chain_here x.is_right_answer)
+    (subst (λ chain. Means other b (last_analyzable_module chain)) chain_there y.is_right_answer)
   where
     Means : GraphView → AnswerView → Option ModuleView → Type 0
     Means g answer module_found = MatchOption module_found (answer ≡ answer_no_module)
         (λ (m : ModuleView). IsAnswerToQuestion rules g m.specifier query.question answer)
 
     chain_here : x.chain ≡ types_chain graph query.specifier
-    chain_here = (only_chain graph query.specifier).only x.chain x.is_chain.is_chain
+    chain_here = (types_chain_is_unique graph query.specifier).only x.chain x.is_chain.is_chain
 
     chain_there : y.chain ≡ types_chain graph query.specifier
-    chain_there = (only_chain other query.specifier).only y.chain y.is_chain.is_chain
-        ∙ sym (same_chain graph other (followed_by_question graph query.specifier query.question) query.specifier alike query.specifier is_queried)
+    chain_there = (types_chain_is_unique other query.specifier).only y.chain y.is_chain.is_chain
+        ∙ sym (same_chain graph other (specifiers_followed_by_question graph query.specifier query.question) query.specifier alike query.specifier
+        (is_requested queried_specifier_is_looked_up))
 
     by : (module_found : Option ModuleView) → get_prefer_types graph query.specifier ≡ module_found → Means graph a module_found → Means other b module_found
         → a ≡ b
@@ -216,3 +222,13 @@ same_answer rules graph other listed other_listed query alike a b x y =
     by (Some m) is p q =
         question_same rules graph other listed other_listed query.specifier query.question alike m.specifier
         (ap (option_map (λ (n : ModuleView). n.specifier)) is) a b p q
+
+pub same_answer : (rules : Rules) (graph other : GraphView) → ((start : List ℕ) → AreExportListsCorrectAndUnique graph start)
+    → ((start : List ℕ) → AreExportListsCorrectAndUnique other start) → (query : QueryView) → AreAlikeForQuery graph other query → (a b : AnswerView)
+    → IsAnswerToQuery rules graph query a → IsAnswerToQuery rules other query b → a ≡ b
+same_answer rules graph other listed other_listed query alike a b = by query.form
+  where
+    by : (form : QueryForm) → IsAnswerInForm form rules graph query a → IsAnswerInForm form rules other query b → a ≡ b
+    by for_answer x y = same_module_answer rules graph other listed other_listed query alike a b x y
+    by for_inputs x y =
+        x.answer_is ∙ (ap answer_inputs (x.in_order ∙ (inputs_same graph other query alike ∙ sym y.in_order)) ∙ sym y.answer_is)

@@ -5,7 +5,7 @@ use Rattle.symbols_table.specs.DeclViews.{FileDepNameView, FileDepView, file_ref
 use Rattle.symbols_exports.specs.StarStatements.{star_specifiers}
 use Rattle.symbols_paths.specs.PathTrees.{SymbolBySpecifier}
 use Rattle.symbols_paths.specs.DeclTargets.{declarations_of}
-use Rattle.symbols_locality.specs.Seen.{FollowedSpecifiers}
+use Rattle.symbols_answers.specs.Seen.{FollowedSpecifiers}
 use Rattle.symbols_locality.proofs.FoundModules.{IsFound}
 use Rattle.symbols_locality.proofs.AlikeRoutes.{Marks}
 

@@ -11,48 +11,57 @@ use Rattle.symbols_table.specs.Changes.{Change, export_stars_after, exports_afte
 use Rattle.symbols_root.specs.GraphModules.{changes_of_module}
 use Rattle.symbols_root.specs.Specifiers.{module_with_specifier}
 use Rattle.symbols_root.specs.TypesChains.{is_analyzable, types_chain, get_prefer_types, resolved_module_specifier, AreTypesModulesFrom, IsTypesChain}
-use Rattle.symbols_root.specs.laws.Specifiers.{looked_up_under}
-use Rattle.symbols_root.specs.laws.TypesChains.{only_chain}
+use Rattle.symbols_root.specs.laws.Specifiers.{redirected_module_has_its_specifier}
+use Rattle.symbols_root.specs.laws.TypesChains.{types_chain_is_unique}
 use Rattle.symbols_exports.specs.StarStatements.{star_specifiers, resolve_specifier, star_targets_of, explicit_exports_of}
 use Rattle.symbols_locality.proofs.StarReach.{IsReachedAlongStars, at_start, by_star, AreAlikeAlongStars}
-use Rattle.symbols_locality.specs.Seen.{FollowedSpecifiers, IsSeen, by_types_dependency, by_resolution, AreAlikeWhereSeen}
-use Rattle.symbols_locality.proofs.FoundModules.{IsFound}
+use Rattle.symbols_answers.specs.Seen.{FollowedSpecifiers, resolved_specifier_is_looked_up, IsSpecifierLookedUp, is_requested, types_dependency_is_looked_up}
+use Rattle.symbols_answers.specs.Seen.{AreAlikeWhereLookedUp}
+use Rattle.symbols_locality.proofs.FoundModules.{IsFound, IsUnder}
 use Rattle.symbols_locality.proofs.Lists.{first_or_later, found_there, reversed_there, same_map, mapped_at}
 
 -- ---- the modules that are found
 
-module _ (graph : GraphView) (Follows : FollowedSpecifiers) (queried : List ℕ) where
-  -- each module on a types chain is found
-  pub chain_found : (key : List ℕ) → IsSeen graph Follows queried key → (list : List ModuleView)
-      → AreTypesModulesFrom graph (module_after_redirect graph key) list → (m : ModuleView) → Contains list m → IsFound graph Follows queried m.specifier
-  chain_found key seen [] are m has = absurd (omega (arith, has.1))
-  chain_found key seen (x ∷ remaining) are m has = elim (first_or_later x remaining m has) [
-    | inl same ↦ record { key = key; found = m; seen = seen; under = are.0 ∙ ap Some same; specifier_is = refl }
-    | inr later ↦ by (content_types_dependency x.content) refl are.1 (λ t seen_t are_t. chain_found t seen_t remaining are_t m later) later
+-- a property of a specifier that each module under such a specifier passes on to its types dependency
+module _ (graph : GraphView) (Has : List ℕ → Type 0) (candidate_has_no_path : (key : List ℕ) (m : ModuleView) (next : List ℕ) → Has key
+    → module_after_redirect graph key ≡ Some m → content_types_dependency m.content ≡ Some next → Has next) where
+  -- each module on a types chain is under one
+  chain_under : (key : List ℕ) → Has key → (list : List ModuleView)
+      → AreTypesModulesFrom graph (module_after_redirect graph key) list → (m : ModuleView) → Contains list m → IsUnder graph Has m.specifier
+  chain_under key at [] are m has = absurd (omega (arith, has.1))
+  chain_under key at (x ∷ remaining) are m has = elim (first_or_later x remaining m has) [
+    | inl same ↦ record { key = key; found = m; has = at; under = are.0 ∙ ap Some same; specifier_is = refl }
+    | inr later ↦ by (content_types_dependency x.content) refl are.1 (λ t at_t are_t. chain_under t at_t remaining are_t m later) later
   ]
     where
-      nothing : (list : List ModuleView) → AreTypesModulesFrom graph None list → Contains list m → IsFound graph Follows queried m.specifier
+      nothing : (list : List ModuleView) → AreTypesModulesFrom graph None list → Contains list m → IsUnder graph Has m.specifier
       nothing [] e later = absurd (omega (arith, later.1))
       nothing (y ∷ ys) e later = absurd (none-some y e.0)
 
       by : (found : Option (List ℕ)) → content_types_dependency x.content ≡ found
           → AreTypesModulesFrom graph (option_and_then (module_after_redirect graph) found) remaining
-          → ((t : List ℕ) → IsSeen graph Follows queried t → AreTypesModulesFrom graph (module_after_redirect graph t) remaining
-          → IsFound graph Follows queried m.specifier) → Contains remaining m → IsFound graph Follows queried m.specifier
+          → ((t : List ℕ) → Has t → AreTypesModulesFrom graph (module_after_redirect graph t) remaining → IsUnder graph Has m.specifier)
+          → Contains remaining m → IsUnder graph Has m.specifier
       by None is are_later further later = nothing remaining are_later later
-      by (Some t) is are_later further later = further t (by_types_dependency key x seen are.0 is) are_later
+      by (Some t) is are_later further later = further t (candidate_has_no_path key x t at are.0 is) are_later
 
-  -- the module that a seen specifier resolves to is found
-  pub resolved_module_found : (key : List ℕ) → IsSeen graph Follows queried key → (v : List ℕ) → resolved_module_specifier graph key ≡ Some v
-      → IsFound graph Follows queried v
-  resolved_module_found key seen v is = by (get_prefer_types graph key) refl is
+  -- the module that such a specifier resolves to is under one
+  pub resolved_under : (key : List ℕ) → Has key → (v : List ℕ) → resolved_module_specifier graph key ≡ Some v → IsUnder graph Has v
+  resolved_under key at v is = by (get_prefer_types graph key) refl is
     where
-      by : (found : Option ModuleView) → get_prefer_types graph key ≡ found → option_map (λ m. m.specifier) found ≡ Some v → IsFound graph Follows queried v
-      by None at e = absurd (none-some v e)
-      by (Some m) at e =
-          subst (IsFound graph Follows queried) (same_Some m.specifier v e)
-          (chain_found key seen (types_chain graph key) (only_chain graph key).is_chain.follows.in_order m
-          (reversed_there (types_chain graph key) m (found_there is_analyzable (reverse (types_chain graph key)) m at)))
+      by : (found : Option ModuleView) → get_prefer_types graph key ≡ found → option_map (λ m. m.specifier) found ≡ Some v → IsUnder graph Has v
+      by None there e = absurd (none-some v e)
+      by (Some m) there e =
+          subst (IsUnder graph Has) (same_Some m.specifier v e)
+          (chain_under key at (types_chain graph key) (types_chain_is_unique graph key).is_chain.is_types_dependency_path.in_order m
+          (reversed_there (types_chain graph key) m (found_there is_analyzable (reverse (types_chain graph key)) m there)))
+
+module _ (graph : GraphView) (Follows : FollowedSpecifiers) (queried : List ℕ) where
+  -- a found module is under a seen specifier
+  pub found_under_seen : (u : List ℕ) → IsFound graph Follows queried u → IsUnder graph (IsSpecifierLookedUp graph Follows queried) u
+  found_under_seen u at = resolved_under graph (IsSpecifierLookedUp graph Follows queried)
+      (λ key m next seen under types. types_dependency_is_looked_up key m seen under types)
+      at.key (is_requested at.requested) u at.resolves
 
   -- the module that a followed specifier resolves to is found
   pub target_found : (u specifier_text v : List ℕ) → IsFound graph Follows queried u → Follows u specifier_text
@@ -61,16 +70,18 @@ module _ (graph : GraphView) (Follows : FollowedSpecifiers) (queried : List ℕ)
     where
       by : (t : Option (List ℕ)) → resolved_dependency graph u specifier_text ≡ t → option_and_then (resolved_module_specifier graph) t ≡ Some v
           → IsFound graph Follows queried v
-      by None to e = absurd (none-some v e)
-      by (Some t) to e =
-          resolved_module_found t (by_resolution at.key at.found specifier_text at.seen at.under
-          (subst (λ w. Follows w specifier_text) (sym at.specifier_is) follows)
-          (subst (λ w. resolved_dependency graph w specifier_text ≡ Some t) (sym at.specifier_is) to)) v e
+      by None part_is_symbol e = absurd (none-some v e)
+      by (Some t) part_is_symbol e = record {
+        key = t;
+        requested = resolved_specifier_is_looked_up at.key u specifier_text at.requested at.resolves follows
+            part_is_symbol;
+        resolves = e;
+      }
 
 -- ---- two graphs
 
-module _ (graph other : GraphView) (Follows : FollowedSpecifiers) (queried : List ℕ) (alike : AreAlikeWhereSeen graph other Follows queried) where
-  in_order_there : (key : List ℕ) → IsSeen graph Follows queried key → (list : List ModuleView)
+module _ (graph other : GraphView) (Follows : FollowedSpecifiers) (queried : List ℕ) (alike : AreAlikeWhereLookedUp graph other Follows queried) where
+  in_order_there : (key : List ℕ) → IsSpecifierLookedUp graph Follows queried key → (list : List ModuleView)
       → AreTypesModulesFrom graph (module_after_redirect graph key) list → AreTypesModulesFrom other (module_after_redirect other key) list
   in_order_there key seen [] are = tt
   in_order_there key seen (x ∷ remaining) are = (
@@ -84,18 +95,21 @@ module _ (graph other : GraphView) (Follows : FollowedSpecifiers) (queried : Lis
 
       by : (found : Option (List ℕ)) → content_types_dependency x.content ≡ found
           → AreTypesModulesFrom graph (option_and_then (module_after_redirect graph) found) remaining
-          → ((t : List ℕ) → IsSeen graph Follows queried t → AreTypesModulesFrom graph (module_after_redirect graph t) remaining
+          → ((t : List ℕ) → IsSpecifierLookedUp graph Follows queried t → AreTypesModulesFrom graph (module_after_redirect graph t) remaining
           → AreTypesModulesFrom other (module_after_redirect other t) remaining)
           → AreTypesModulesFrom other (option_and_then (module_after_redirect other) found) remaining
       by None is are_later further = nothing remaining are_later
-      by (Some t) is are_later further = further t (by_types_dependency key x seen are.0 is) are_later
+      by (Some t) is are_later further = further t (types_dependency_is_looked_up key x seen are.0 is) are_later
 
-  in_order_here : (key : List ℕ) → IsSeen graph Follows queried key → (list : List ModuleView)
+  in_order_here : (key : List ℕ) → IsSpecifierLookedUp graph Follows queried key → (list : List ModuleView)
       → AreTypesModulesFrom other (module_after_redirect other key) list → AreTypesModulesFrom graph (module_after_redirect graph key) list
   in_order_here key seen [] are = tt
   in_order_here key seen (x ∷ remaining) are = let here : module_after_redirect graph key ≡ Some x =
-      alike.same_modules key seen ∙ are.0 in
-      (here, by (content_types_dependency x.content) refl are.1 (λ t is are_t. in_order_here t (by_types_dependency key x seen here is) remaining are_t))
+      alike.same_modules key seen ∙ are.0 in (
+        here,
+        by (content_types_dependency x.content) refl are.1
+            (λ t is are_t. in_order_here t (types_dependency_is_looked_up key x seen here is) remaining are_t),
+      )
     where
       nothing : (list : List ModuleView) → AreTypesModulesFrom other None list → AreTypesModulesFrom graph None list
       nothing [] e = tt
@@ -109,44 +123,51 @@ module _ (graph other : GraphView) (Follows : FollowedSpecifiers) (queried : Lis
       by None is are_later further = nothing remaining are_later
       by (Some t) is are_later further = further t is are_later
 
-  chain_there : (key : List ℕ) → IsSeen graph Follows queried key → (chain : List ModuleView) → IsTypesChain graph key chain → IsTypesChain other key chain
+  chain_there : (key : List ℕ) → IsSpecifierLookedUp graph Follows queried key → (chain : List ModuleView) → IsTypesChain graph key chain
+      → IsTypesChain other key chain
   chain_there key seen chain is = record {
-    follows = record { in_order = in_order_there key seen chain is.follows.in_order; once = is.follows.once };
-    longest = λ list follows. is.longest list (record { in_order = in_order_here key seen list follows.in_order; once = follows.once });
+    is_types_dependency_path = record {
+      in_order = in_order_there key seen chain is.is_types_dependency_path.in_order;
+      has_no_duplicates =
+          is.is_types_dependency_path.has_no_duplicates;
+    };
+    is_longest = λ list follows. is.is_longest list (record {
+      in_order = in_order_here key seen list follows.in_order;
+      has_no_duplicates =
+          follows.has_no_duplicates;
+    });
   }
 
   -- the types chain of a seen specifier
-  pub same_chain : (key : List ℕ) → IsSeen graph Follows queried key → types_chain graph key ≡ types_chain other key
-  same_chain key seen = (only_chain other key).only (types_chain graph key) (chain_there key seen (types_chain graph key) (only_chain graph key).is_chain)
+  pub same_chain : (key : List ℕ) → IsSpecifierLookedUp graph Follows queried key → types_chain graph key ≡ types_chain other key
+  same_chain key seen = (types_chain_is_unique other key).only (types_chain graph key) (chain_there key seen (types_chain graph key)
+      (types_chain_is_unique graph key).is_chain)
 
   -- the module that it resolves to
-  pub same_resolved_module : (key : List ℕ) → IsSeen graph Follows queried key → resolved_module_specifier graph key ≡ resolved_module_specifier other key
+  pub same_resolved_module : (key : List ℕ) → IsSpecifierLookedUp graph Follows queried key → resolved_module_specifier graph key
+      ≡ resolved_module_specifier other key
   same_resolved_module key seen = ap (λ chain. option_map (λ (m : ModuleView). m.specifier) (find is_analyzable (reverse chain))) (same_chain key seen)
 
   -- the module that a followed specifier resolves to
   pub same_target : (u specifier_text : List ℕ) → IsFound graph Follows queried u → Follows u specifier_text
       → resolve_specifier graph u specifier_text ≡ resolve_specifier other u specifier_text
   same_target u specifier_text at follows =
-      by (resolved_dependency graph u specifier_text) refl ∙ ap (option_and_then (resolved_module_specifier other)) same_resolution
+      by (resolved_dependency graph u specifier_text) refl
+      ∙ ap (option_and_then (resolved_module_specifier other)) (alike.same_resolutions at.key u specifier_text at.requested at.resolves follows)
     where
-      same_resolution : resolved_dependency graph u specifier_text ≡ resolved_dependency other u specifier_text
-      same_resolution =
-          subst (λ w. resolved_dependency graph w specifier_text ≡ resolved_dependency other w specifier_text) at.specifier_is
-          (alike.same_resolutions at.key at.found specifier_text at.seen at.under (subst (λ w. Follows w specifier_text) (sym at.specifier_is) follows))
-
       by : (t : Option (List ℕ)) → resolved_dependency graph u specifier_text ≡ t
           → option_and_then (resolved_module_specifier graph) t ≡ option_and_then (resolved_module_specifier other) t
-      by None to = refl
-      by (Some t) to =
-          same_resolved_module t (by_resolution at.key at.found specifier_text at.seen at.under
-          (subst (λ w. Follows w specifier_text) (sym at.specifier_is) follows)
-          (subst (λ w. resolved_dependency graph w specifier_text ≡ Some t) (sym at.specifier_is) to))
+      by None part_is_symbol = refl
+      by (Some t) part_is_symbol =
+          same_resolved_module t (is_requested (resolved_specifier_is_looked_up at.key u specifier_text at.requested at.resolves follows part_is_symbol))
 
   -- a found module with its symbols
   pub same_module : (u : List ℕ) → IsFound graph Follows queried u → module_with_specifier graph u ≡ module_with_specifier other u
-  same_module u at =
+  same_module u found =
+      let at = found_under_seen graph Follows queried u found in
       subst (λ w. module_with_specifier graph w ≡ module_with_specifier other w) at.specifier_is
-      (looked_up_under graph at.key at.found at.under ∙ sym (looked_up_under other at.key at.found (sym (alike.same_modules at.key at.seen) ∙ at.under)))
+      (redirected_module_has_its_specifier graph at.key at.found at.under ∙ sym (redirected_module_has_its_specifier other at.key at.found
+      (sym (alike.same_modules at.key at.has) ∙ at.under)))
 
   pub same_changes : (u : List ℕ) → IsFound graph Follows queried u → changes_of_module graph u ≡ changes_of_module other u
   same_changes u at =

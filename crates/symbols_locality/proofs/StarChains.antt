@@ -30,7 +30,8 @@ module _ (s t : StarTargets) (start : List ℕ) (same : (v : List ℕ) → IsRea
   pub simple_there : (chain end : List ℕ) → IsSimpleChain s start chain end → IsSimpleChain t start chain end
   simple_there chain end simple = record {
     ends_at = sym (same_end start at_start chain) ∙ simple.ends_at;
-    once = λ j k j_in k_in e. simple.once j k j_in k_in (same_end start at_start (take j chain) ∙ (e ∙ sym (same_end start at_start (take k chain))));
+    has_no_duplicates = λ j k j_in k_in e. simple.has_no_duplicates j k j_in k_in (same_end start at_start (take j chain) ∙
+        (e ∙ sym (same_end start at_start (take k chain))));
   }
 
 -- the end of a chain is reached along `export *`

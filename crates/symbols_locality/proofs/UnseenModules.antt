@@ -6,8 +6,9 @@ use Rattle.std.proofs.lemmas.Option.{none-some, same_Some}
 use Rattle.symbols_ast.specs.Graph.{GraphView, ModuleView, Resolution, specifier_after_redirect}
 use Rattle.symbols_ast.specs.Graph.{resolved_dependency}
 use Rattle.symbols_answers.specs.Questions.{QueryView}
-use Rattle.symbols_locality.specs.Seen.{FollowedSpecifiers, IsSeen, is_queried, by_types_dependency, by_resolution}
-use Rattle.symbols_locality.specs.QueryReach.{followed_by_question, IsUnseenModule}
+use Rattle.symbols_answers.specs.Seen.{FollowedSpecifiers, IsRequested, queried_specifier_is_looked_up, resolved_specifier_is_looked_up, IsSpecifierLookedUp}
+use Rattle.symbols_answers.specs.Seen.{is_requested, types_dependency_is_looked_up}
+use Rattle.symbols_answers.specs.QueryReach.{specifiers_followed_by_question, IsModuleNotLookedUpByQuery}
 use Rattle.symbols_locality.specs.ChangedModule.{IsUnreferenced}
 use Rattle.symbols_locality.proofs.Lists.{found_there}
 
@@ -24,17 +25,23 @@ module _ (graph : GraphView) (specifier : List ℕ) (unreferenced : IsUnreferenc
       by : (found : Option Resolution) → find is_it graph.resolutions ≡ found → option_map (λ r. r.specifier) found ≡ Some next → IsIt next → ⊥
       by None is e it = none-some next e
       by (Some r) is e it =
-          unreferenced.by_no_resolution r (found_there is_it graph.resolutions r is) (ap (specifier_after_redirect graph) (same_Some r.specifier next e) ∙ it)
+          unreferenced.is_no_resolution_target r (found_there is_it graph.resolutions r is) (ap (specifier_after_redirect graph) (same_Some r.specifier next e)
+          ∙ it)
 
-  unseen : (Follows : FollowedSpecifiers) (queried : List ℕ) → (IsIt queried → ⊥) → (key : List ℕ) → IsSeen graph Follows queried key → IsIt key → ⊥
-  unseen Follows queried other key is_queried it = other it
-  unseen Follows queried other key (by_types_dependency before m seen under types) it =
-      unreferenced.by_no_module m key (found_there
+  unrequested : (Follows : FollowedSpecifiers) (queried : List ℕ) → (IsIt queried → ⊥) → (key : List ℕ) → IsRequested graph Follows queried key
+      → IsIt key → ⊥
+  unrequested Follows queried other key queried_specifier_is_looked_up it = other it
+  unrequested Follows queried other key (resolved_specifier_is_looked_up before referrer specifier_text requested at follows resolves) it =
+      not_resolved referrer specifier_text key resolves it
+
+  unseen : (Follows : FollowedSpecifiers) (queried : List ℕ) → (IsIt queried → ⊥) → (key : List ℕ) → IsSpecifierLookedUp graph Follows queried key → IsIt key
+      → ⊥
+  unseen Follows queried other key (is_requested requested) it = unrequested Follows queried other key requested it
+  unseen Follows queried other key (types_dependency_is_looked_up before m seen under types) it =
+      unreferenced.is_no_types_dependency m key (found_there
       (λ (x : ModuleView). bytes_eq (specifier_after_redirect graph before) x.specifier) graph.modules m under) types it
-  unseen Follows queried other key (by_resolution before m specifier_text seen under follows resolves) it =
-      not_resolved m.specifier specifier_text key resolves it
 
 pub unseen_by_query : (graph : GraphView) (query : QueryView) (specifier : List ℕ) → IsUnreferenced graph specifier
-    → (specifier_after_redirect graph query.specifier ≡ specifier → ⊥) → IsUnseenModule graph query specifier
+    → (specifier_after_redirect graph query.specifier ≡ specifier → ⊥) → IsModuleNotLookedUpByQuery graph query specifier
 unseen_by_query graph query specifier unreferenced other =
-    unseen graph specifier unreferenced (followed_by_question graph query.specifier query.question) query.specifier other
+    unseen graph specifier unreferenced (specifiers_followed_by_question graph query.specifier query.question) query.specifier other

@@ -11,7 +11,7 @@ pub record DiffersOnlyIn (graph other : GraphView) (specifier : List ℕ) : Type
 
 -- no types dependency and no resolution is, after one redirect, the specifier
 pub record IsUnreferenced (graph : GraphView) (specifier : List ℕ) : Type 0 where
-  pub by_no_module : (m : ModuleView) (next : List ℕ) → Contains graph.modules m → content_types_dependency m.content ≡ Some next
+  pub is_no_types_dependency : (m : ModuleView) (next : List ℕ) → Contains graph.modules m → content_types_dependency m.content ≡ Some next
       → specifier_after_redirect graph next ≡ specifier → ⊥
-  pub by_no_resolution : (resolution : Resolution) → Contains graph.resolutions resolution
+  pub is_no_resolution_target : (resolution : Resolution) → Contains graph.resolutions resolution
       → specifier_after_redirect graph resolution.specifier ≡ specifier → ⊥

@@ -8,7 +8,7 @@ pub record IsClosedPart (graph part : GraphView) (is_inside : List ℕ → Bool)
   pub same_modules : (key : List ℕ) → is_inside key ≡ true → module_after_redirect graph key ≡ module_after_redirect part key
   pub same_resolutions : (key : List ℕ) (m : ModuleView) (specifier_text : List ℕ) → is_inside key ≡ true → module_after_redirect graph key ≡ Some m
       → resolved_dependency graph m.specifier specifier_text ≡ resolved_dependency part m.specifier specifier_text
-  pub types_inside : (key : List ℕ) (m : ModuleView) (next : List ℕ) → is_inside key ≡ true → module_after_redirect graph key ≡ Some m
+  pub types_dependencies_are_inside : (key : List ℕ) (m : ModuleView) (next : List ℕ) → is_inside key ≡ true → module_after_redirect graph key ≡ Some m
       → content_types_dependency m.content ≡ Some next → is_inside next ≡ true
-  pub resolutions_inside : (key : List ℕ) (m : ModuleView) (specifier_text next : List ℕ) → is_inside key ≡ true → module_after_redirect graph key ≡ Some m
+  pub resolutions_are_inside : (key : List ℕ) (m : ModuleView) (specifier_text next : List ℕ) → is_inside key ≡ true → module_after_redirect graph key ≡ Some m
       → resolved_dependency graph m.specifier specifier_text ≡ Some next → is_inside next ≡ true

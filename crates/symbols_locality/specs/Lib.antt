@@ -1,4 +1,2 @@
-pub mod Seen
-pub mod QueryReach
 pub mod ChangedModule
 pub mod ClosedPart

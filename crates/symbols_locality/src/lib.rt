@@ -6,13 +6,13 @@
 
 ghost use Rattle.std.specs.Prelude.{◌≡◌, ℕ, Bool, true, List};
 ghost use Rattle.symbols_ast.specs.Graph.{GraphView, ModuleView, specifier_after_redirect};
-ghost use Rattle.symbols_graph.specs.PutModules.{with_module};
+ghost use Rattle.symbols_graph.specs.PutModules.{graph_with_put_module};
 ghost use Rattle.symbols_root.specs.declared.rules.Rules.{Rules};
 ghost use Rattle.symbols_answers.specs.Answers.{AnswerView};
 ghost use Rattle.symbols_answers.specs.Meanings.{IsAnswerToQuery};
 ghost use Rattle.symbols_answers.specs.QueryAnswers.{query_answer};
 ghost use Rattle.symbols_answers.specs.Questions.{QueryView};
-ghost use Rattle.symbols_locality.specs.QueryReach.{AreAlikeForQuery, IsUnseenModule};
+ghost use Rattle.symbols_answers.specs.QueryReach.{AreAlikeForQuery, IsModuleNotLookedUpByQuery};
 ghost use Rattle.symbols_locality.specs.ChangedModule.{DiffersOnlyIn, IsUnreferenced};
 ghost use Rattle.symbols_locality.specs.ClosedPart.{IsClosedPart};
 
@@ -38,11 +38,11 @@ pub fn answers_are_local(root: &RootSymbol<'_>, other: &RootSymbol<'_>)
 pub fn unseen_module_changes_nothing(root: &RootSymbol<'_>, other: &RootSymbol<'_>)
     ensures answers { (rules : Rules) (query : QueryView) (changed : List ℕ)
         → DiffersOnlyIn root.now.graph other.now.graph changed
-        → IsUnseenModule root.now.graph query changed
+        → IsModuleNotLookedUpByQuery root.now.graph query changed
         → query_answer rules root.now.graph query ≡ query_answer rules other.now.graph query }
     ensures means { (rules : Rules) (query : QueryView) (changed : List ℕ) (one two : AnswerView)
         → DiffersOnlyIn root.now.graph other.now.graph changed
-        → IsUnseenModule root.now.graph query changed
+        → IsModuleNotLookedUpByQuery root.now.graph query changed
         → IsAnswerToQuery rules root.now.graph query one
         → IsAnswerToQuery rules other.now.graph query two → one ≡ two }
 {
@@ -53,7 +53,7 @@ pub fn unseen_module_changes_nothing(root: &RootSymbol<'_>, other: &RootSymbol<'
 /// the resolutions of that module, replaced or added.
 pub fn replacing_changes_one_module()
     ensures { (graph : GraphView) (m : ModuleView) (resolved : List (List ℕ × List ℕ))
-        → DiffersOnlyIn graph (with_module graph m resolved) m.specifier }
+        → DiffersOnlyIn graph (graph_with_put_module graph m resolved) m.specifier }
 {}
 
 /// States that a query on another module doesn't look up a module that nothing in the graph refers
@@ -62,7 +62,7 @@ pub fn unreferenced_module_is_unseen()
     ensures { (graph : GraphView) (query : QueryView) (specifier : List ℕ)
         → IsUnreferenced graph specifier
         → (specifier_after_redirect graph query.specifier ≡ specifier → ⊥)
-        → IsUnseenModule graph query specifier }
+        → IsModuleNotLookedUpByQuery graph query specifier }
 {}
 
 /// States that a graph and a closed part of it agree on what a query on a module of the part looks

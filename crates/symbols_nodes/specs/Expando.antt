@@ -31,13 +31,13 @@ str_literal_value (Kind.Expr (Expr.Str value)) = Some (string_bytes value)
 str_literal_value _ = None
 
 -- The name after the dot, or the string in brackets.
-abbrev pub prop_text : TreeNode → Kind → Option (List ℕ)
-prop_text prop (Kind.Expr (Expr.IdentName name)) = Some (string_bytes name)
-prop_text prop (Kind.Expr (Expr.Computed _)) = option_and_then str_literal_value (option_and_then kind_of (child_in_field prop expr_of))
-prop_text prop _ = None
+abbrev pub prop_name_by_kind : TreeNode → Kind → Option (List ℕ)
+prop_name_by_kind prop (Kind.Expr (Expr.IdentName name)) = Some (string_bytes name)
+prop_name_by_kind prop (Kind.Expr (Expr.Computed _)) = option_and_then str_literal_value (option_and_then kind_of (child_in_field prop expr_of))
+prop_name_by_kind prop _ = None
 
 abbrev pub prop_name : TreeNode → Option (List ℕ)
-prop_name prop = option_and_then (prop_text prop) (kind_of prop)
+prop_name prop = option_and_then (prop_name_by_kind prop) (kind_of prop)
 
 abbrev pub is_ident : Kind → Bool
 is_ident (Kind.Expr (Expr.Ident _)) = true

@@ -7,9 +7,9 @@ use Rattle.symbols_nodes.specs.declared.deps.dotted_names.Part.{Part}
 use Rattle.symbols_nodes.specs.DottedNames.{DottedName}
 
 -- The text of a private name begins with `#`.
-abbrev pub name_part_view : Part → List ℕ
-name_part_view (Part.Text text) = text.now
-name_part_view (Part.Private name) = codes "#" ++ name.now
+abbrev pub dotted_name_part_view : Part → List ℕ
+dotted_name_part_view (Part.Text text) = text.now
+dotted_name_part_view (Part.Private name) = codes "#" ++ name.now
 
 abbrev pub member_expr_name_view : MemberExprName → DottedName
 member_expr_name_view name = record { leftmost = id_view name.leftmost.now; parts = map cow_str_bytes name.parts.items }

@@ -28,36 +28,36 @@ abbrev pub child_text : (Kind → Option ℕ) → TreeNode → Option (List ℕ)
 child_text field node = option_and_then ident_or_literal_text (option_and_then kind_of (child_in_field node field))
 
 -- The name of a key. A private name has `#` before it; a big integer is no name.
-abbrev pub key_text : TreeNode → Kind → Option (List ℕ)
-key_text key (Kind.Expr (Expr.IdentName name)) = Some (string_bytes name)
-key_text key (Kind.Expr (Expr.Str value)) = Some (string_bytes value)
-key_text key (Kind.Expr (Expr.Num text)) = Some (string_bytes text)
-key_text key (Kind.Expr (Expr.Computed _)) = child_text expr_of key
-key_text key (Kind.Expr (Expr.PrivateName name)) = Some (codes "#" ++ string_bytes name)
-key_text key _ = None
+abbrev pub key_name_by_kind : TreeNode → Kind → Option (List ℕ)
+key_name_by_kind key (Kind.Expr (Expr.IdentName name)) = Some (string_bytes name)
+key_name_by_kind key (Kind.Expr (Expr.Str value)) = Some (string_bytes value)
+key_name_by_kind key (Kind.Expr (Expr.Num text)) = Some (string_bytes text)
+key_name_by_kind key (Kind.Expr (Expr.Computed _)) = child_text expr_of key
+key_name_by_kind key (Kind.Expr (Expr.PrivateName name)) = Some (codes "#" ++ string_bytes name)
+key_name_by_kind key _ = None
 
 abbrev pub key_name : TreeNode → Option (List ℕ)
-key_name node = option_and_then (λ (key : TreeNode). option_and_then (key_text key) (kind_of key)) (child_in_field node key_of)
+key_name node = option_and_then (λ (key : TreeNode). option_and_then (key_name_by_kind key) (kind_of key)) (child_in_field node key_of)
 
 -- The name that a pattern binds, if it is an identifier.
 abbrev pub binding_name : TreeNode → Option (List ℕ)
 binding_name node = option_map (λ id. string_bytes id.name) (option_and_then ident_id (kind_of node))
 
 -- The name of a parameter; with a default value it is the name of the pattern on its left.
-abbrev pub param_text : TreeNode → Kind → Option (List ℕ)
-param_text param (Kind.Pat (Pat.AssignPat _ _)) = option_and_then binding_name (child_in_field param left_of)
-param_text param _ = binding_name param
+abbrev pub param_name_by_kind : TreeNode → Kind → Option (List ℕ)
+param_name_by_kind param (Kind.Pat (Pat.AssignPat _ _)) = option_and_then binding_name (child_in_field param left_of)
+param_name_by_kind param _ = binding_name param
 
 abbrev pub param_name : TreeNode → Option (List ℕ)
-param_name node = option_and_then (λ (param : TreeNode). option_and_then (param_text param) (kind_of param)) (child_in_field node param_of)
+param_name node = option_and_then (λ (param : TreeNode). option_and_then (param_name_by_kind param) (kind_of param)) (child_in_field node param_of)
 
-abbrev pub default_decl_text : TreeNode → Kind → Option (List ℕ)
-default_decl_text decl (Kind.Decl (Decl.TsInterfaceDecl _ _ _ _)) = child_text id_of decl
-default_decl_text decl _ = child_text ident_of decl
+abbrev pub default_decl_name_by_kind : TreeNode → Kind → Option (List ℕ)
+default_decl_name_by_kind decl (Kind.Decl (Decl.TsInterfaceDecl _ _ _ _)) = child_text id_of decl
+default_decl_name_by_kind decl _ = child_text ident_of decl
 
 -- The name of the declaration after `export default`. A class or a function there may have none.
 abbrev pub default_decl_name : TreeNode → Option (List ℕ)
-default_decl_name node = option_and_then (λ (decl : TreeNode). option_and_then (default_decl_text decl) (kind_of decl)) (child_in_field node decl_of)
+default_decl_name node = option_and_then (λ (decl : TreeNode). option_and_then (default_decl_name_by_kind decl) (kind_of decl)) (child_in_field node decl_of)
 
 abbrev pub export_decl_name : ExportDeclView → Option (List ℕ)
 export_decl_name (exported_class node) = child_text ident_of node
@@ -69,32 +69,32 @@ export_decl_name (exported_ts_module node) = child_text id_of node
 export_decl_name (exported_ts_type_alias node) = child_text id_of node
 
 -- The name of a node, apart from class members whose name is their key.
-abbrev pub name_unless_class_key : SymbolNodeView → Option (List ℕ)
-name_unless_class_key (export_decl _ exported) = export_decl_name exported
-name_unless_class_key (export_default_decl node) = default_decl_name node
-name_unless_class_key (class_decl node) = child_text ident_of node
-name_unless_class_key (fn_decl node) = child_text ident_of node
-name_unless_class_key (ts_enum node) = child_text id_of node
-name_unless_class_key (ts_interface node) = child_text id_of node
-name_unless_class_key (ts_namespace node) = child_text id_of node
-name_unless_class_key (ts_type_alias node) = child_text id_of node
-name_unless_class_key (var _ _ ident) = binding_name ident
-name_unless_class_key (using_var _ _ ident) = binding_name ident
-name_unless_class_key (class_param_prop node) = param_name node
-name_unless_class_key (constructor _) = Some (codes "%%dg_ctor%%")
-name_unless_class_key (expando_property node) = option_map (λ (expando : Expando). expando.name) (expando_of_assignment node)
-name_unless_class_key (ts_index_signature _) = Some (codes "%%dg_index%%")
-name_unless_class_key (ts_call_signature_decl _) = Some (codes "%%dg_call%%")
-name_unless_class_key (ts_construct_signature_decl _) = Some (codes "%%dg_construct%%")
-name_unless_class_key (ts_property_signature node) = child_text key_of node
-name_unless_class_key (ts_getter_signature node) = child_text key_of node
-name_unless_class_key (ts_setter_signature node) = child_text key_of node
-name_unless_class_key (ts_method_signature node) = child_text key_of node
-name_unless_class_key _ = None
+abbrev pub name_of_node_not_class_member : SymbolNodeView → Option (List ℕ)
+name_of_node_not_class_member (export_decl _ exported) = export_decl_name exported
+name_of_node_not_class_member (export_default_decl node) = default_decl_name node
+name_of_node_not_class_member (class_decl node) = child_text ident_of node
+name_of_node_not_class_member (fn_decl node) = child_text ident_of node
+name_of_node_not_class_member (ts_enum node) = child_text id_of node
+name_of_node_not_class_member (ts_interface node) = child_text id_of node
+name_of_node_not_class_member (ts_namespace node) = child_text id_of node
+name_of_node_not_class_member (ts_type_alias node) = child_text id_of node
+name_of_node_not_class_member (var _ _ ident) = binding_name ident
+name_of_node_not_class_member (using_var _ _ ident) = binding_name ident
+name_of_node_not_class_member (class_param_prop node) = param_name node
+name_of_node_not_class_member (constructor _) = Some (codes "%%dg_ctor%%")
+name_of_node_not_class_member (expando_property node) = option_map (λ (expando : Expando). expando.name) (expando_of_assignment node)
+name_of_node_not_class_member (ts_index_signature _) = Some (codes "%%dg_index%%")
+name_of_node_not_class_member (ts_call_signature_decl _) = Some (codes "%%dg_call%%")
+name_of_node_not_class_member (ts_construct_signature_decl _) = Some (codes "%%dg_construct%%")
+name_of_node_not_class_member (ts_property_signature node) = child_text key_of node
+name_of_node_not_class_member (ts_getter_signature node) = child_text key_of node
+name_of_node_not_class_member (ts_setter_signature node) = child_text key_of node
+name_of_node_not_class_member (ts_method_signature node) = child_text key_of node
+name_of_node_not_class_member _ = None
 
 -- The name of a declaration node. A module and an expression have none.
 abbrev pub node_name : SymbolNodeView → Option (List ℕ)
 node_name (auto_accessor node) = key_name node
 node_name (class_method node) = key_name node
 node_name (class_prop node) = key_name node
-node_name node = name_unless_class_key node
+node_name node = name_of_node_not_class_member node

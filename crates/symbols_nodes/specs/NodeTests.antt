@@ -103,26 +103,26 @@ has_direct_body node = is_some (child_in_field node body_node_of)
 abbrev pub has_function_body : TreeNode → Bool
 has_function_body node = option_map_or has_direct_body (child_in_field node function_of) false
 
-abbrev pub exported_has_body : ExportDeclView → Bool
-exported_has_body (exported_class _) = true
-exported_has_body (exported_fn node) = has_function_body node
-exported_has_body (exported_var _ _ _) = false
-exported_has_body (exported_ts_enum _) = true
-exported_has_body (exported_ts_interface _) = true
-exported_has_body (exported_ts_module node) = has_direct_body node
-exported_has_body (exported_ts_type_alias _) = false
+abbrev pub exported_decl_has_body : ExportDeclView → Bool
+exported_decl_has_body (exported_class _) = true
+exported_decl_has_body (exported_fn node) = has_function_body node
+exported_decl_has_body (exported_var _ _ _) = false
+exported_decl_has_body (exported_ts_enum _) = true
+exported_decl_has_body (exported_ts_interface _) = true
+exported_decl_has_body (exported_ts_module node) = has_direct_body node
+exported_decl_has_body (exported_ts_type_alias _) = false
 
-abbrev pub default_has_body : TreeNode → Option Kind → Bool
-default_has_body node (Some (Kind.Decl (Decl.FnExpr _ _))) = has_function_body node
-default_has_body node (Some (Kind.Decl (Decl.ClassExpr _ _))) = true
-default_has_body node (Some (Kind.Decl (Decl.TsInterfaceDecl _ _ _ _))) = true
-default_has_body node _ = false
+abbrev pub default_decl_has_body : TreeNode → Option Kind → Bool
+default_decl_has_body node (Some (Kind.Decl (Decl.FnExpr _ _))) = has_function_body node
+default_decl_has_body node (Some (Kind.Decl (Decl.ClassExpr _ _))) = true
+default_decl_has_body node (Some (Kind.Decl (Decl.TsInterfaceDecl _ _ _ _))) = true
+default_decl_has_body node _ = false
 
 -- Modules, classes, enums and interfaces always have a body. Functions, namespaces, methods and constructors have one if it is written.
 abbrev pub has_body : SymbolNodeView → Bool
 has_body (program _) = true
-has_body (export_decl _ exported) = exported_has_body exported
-has_body (export_default_decl node) = option_map_or (λ decl. default_has_body decl (kind_of decl)) (child_in_field node decl_of) false
+has_body (export_decl _ exported) = exported_decl_has_body exported
+has_body (export_default_decl node) = option_map_or (λ decl. default_decl_has_body decl (kind_of decl)) (child_in_field node decl_of) false
 has_body (class_decl _) = true
 has_body (ts_enum _) = true
 has_body (ts_interface _) = true
@@ -132,12 +132,12 @@ has_body (ts_namespace node) = has_direct_body node
 has_body (constructor node) = has_direct_body node
 has_body _ = false
 
-abbrev pub is_method_kind : Kind → Bool
-is_method_kind (Kind.Member (Member.ClassMethod _ _ MethodKind.Method _ _)) = true
-is_method_kind _ = false
+abbrev pub is_non_accessor_method : Kind → Bool
+is_non_accessor_method (Kind.Member (Member.ClassMethod _ _ MethodKind.Method _ _)) = true
+is_non_accessor_method _ = false
 
 -- A constructor, or a method other than a getter or setter.
 abbrev pub is_method : SymbolNodeView → Bool
-is_method (class_method node) = option_map_or is_method_kind (kind_of node) false
+is_method (class_method node) = option_map_or is_non_accessor_method (kind_of node) false
 is_method (constructor _) = true
 is_method _ = false

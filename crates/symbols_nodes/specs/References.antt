@@ -13,7 +13,7 @@ use Rattle.symbols_nodes.specs.declared.deps.dep.ResolveDepsMode.TheVariants.{Ty
 use Rattle.symbols_nodes.specs.declared.deps.dep.SymbolNodeDep.{SymbolNodeDep}
 use Rattle.symbols_nodes.specs.declared.deps.dep.SymbolNodeDep.TheVariants as Dep
 use Rattle.symbols_nodes.specs.DottedNames.{DottedName, entity_name, member_expr_name}
-use Rattle.symbols_nodes.specs.Readings.{read_node_of_greater_number}
+use Rattle.symbols_nodes.specs.Readings.{evaluate_node_of_greater_number}
 
 abbrev pub visits_expressions : ResolveDepsMode → Bool
 visits_expressions TypesOnly = false
@@ -26,7 +26,7 @@ pub data SymbolReference : Type 0 where
   import_type : List ℕ → List (List ℕ) → SymbolReference
 
 -- A reference, and whether it refers to a value, a type or both.
-pub record SymbolDependency : Type 0 where
+pub record NamespacedReference : Type 0 where
   pub reference : SymbolReference
   pub namespace : ReferenceNamespace
 
@@ -36,8 +36,8 @@ reference_view (Dep.Id name) = id (id_view name.now)
 reference_view (Dep.QualifiedId name parts) = qualified_id (id_view name.now) (map cow_str_bytes parts.items)
 reference_view (Dep.ImportType specifier_text parts) = import_type specifier_text.now (map cow_str_bytes parts.items)
 
-abbrev pub dependency_view : SymbolNodeDep × ReferenceNamespace → SymbolDependency
-dependency_view found = record { reference = reference_view found.0; namespace = found.1 }
+abbrev pub namespaced_reference_view : SymbolNodeDep × ReferenceNamespace → NamespacedReference
+namespaced_reference_view found = record { reference = reference_view found.0; namespace = found.1 }
 
 -- ---- the nodes that are references
 
@@ -54,7 +54,7 @@ reference_of_kind node (Kind.Expr (Expr.Member _ _)) = option_map qualified_id_r
 reference_of_kind node (Kind.Ty (Ty.TsQualifiedName _ _)) = option_map qualified_id_reference (entity_name node)
 reference_of_kind node (Kind.Ty (Ty.TsImportType arg None _)) = Some (import_type (string_bytes arg) [])
 reference_of_kind node (Kind.Ty (Ty.TsImportType arg (Some qualifier) _)) =
-    option_map (import_type_reference (string_bytes arg)) (read_node_of_greater_number entity_name node qualifier)
+    option_map (import_type_reference (string_bytes arg)) (evaluate_node_of_greater_number entity_name node qualifier)
 reference_of_kind node _ = None
 
 -- The reference that a node is, if it is one.

@@ -1,8 +1,10 @@
 -- The definitions of builders in order, and builders with their definitions replaced.
-use Rattle.std.proofs.Common.{◌≡◌, ℕ, suc, ◌+◌, ◌<◌, List, [], ◌∷◌, ◌++◌, length, map, drop, get_or, add-one, Option}
-use Rattle.std.proofs.Common.{None, Some, option_to_list, Vec, Box, sym, ap, subst, ◌∙◌, append_assoc, append-nil}
+use Rattle.std.proofs.Common.{◌≡◌, ℕ, suc, ◌+◌, ◌<◌, List, [], ◌∷◌, ◌++◌, length, map, reverse, drop, get_or, add-one, Option}
+use Rattle.std.proofs.Common.{None, Some, option_to_list, Vec, Box, sym, ap, subst, ◌∙◌, append_assoc, append-nil, arith}
 use Rattle.std.proofs.Math.Seq.{drop-cons}
+use Rattle.std.specs.Borrow.{Bor}
 use Rattle.std.specs.Global.{Global}
+use Rattle.std.proofs.lemmas.List.{map-append, reverse-append, drop_all}
 use Rattle.std.specs.Option.{option_flatten}
 use Rattle.symbols_root.specs.Roots.{RootView}
 use Rattle.symbols_paths.specs.declared.definition.Definition.{Definition}
@@ -24,18 +26,44 @@ use Rattle.symbols_paths.proofs.BuilderLemmas.{stored_one, rebuilt_linked, rebui
 pub drop_read : {A : Type 0} (xs : List A) (i : ℕ) (x : A) → i < length xs → x ≡ get_or xs i x → drop i xs ≡ x ∷ drop (i + 1) xs
 drop_read xs i x lt e = rw (add-one, drop-cons xs i x) (ap (λ y. y ∷ drop (suc i) xs) (sym e))
 
-pub record IsListedSoFar (found : List Definition) (rest : List PathBuilder) (begun : List Definition) (builders : List PathBuilder) : Type 0 where
+-- borrowed builders
+abbrev pub builders_now : List (Bor PathBuilder) → List PathBuilder
+builders_now borrowed = map (λ (b : Bor PathBuilder). b.now) borrowed
+
+-- the last one is taken off a stack
+pub popped_now : (stack new : List (Bor PathBuilder)) (builder : Bor PathBuilder) → stack ≡ new ++ builder ∷ []
+    → builders_now stack ≡ builders_now new ++ builder.now ∷ []
+popped_now stack new builder is = ap builders_now is ∙ map-append (λ (b : Bor PathBuilder). b.now) new (builder ∷ [])
+
+-- the last branch is put on a stack, and then another one
+pub pushed_last : (old new : List (Bor PathBuilder)) (branches : List PathBuilder) (n : ℕ) (last : Bor PathBuilder) → new ≡ old ++ last ∷ []
+    → n ≡ length branches → reverse (builders_now new) ≡ drop n branches ++ last.now ∷ reverse (builders_now old)
+pushed_last old new branches n last put len = ap (λ bs. reverse (builders_now bs)) put
+    ∙ (ap reverse (map-append (λ (b : Bor PathBuilder). b.now) old (last ∷ []))
+    ∙ (reverse-append (builders_now old) (last.now ∷ [])
+    ∙ ap (λ bs. bs ++ last.now ∷ reverse (builders_now old)) (sym (drop_all n branches (omega (arith, len))))))
+
+pub pushed_more : (old new : List (Bor PathBuilder)) (branches rest : List PathBuilder) (left i : ℕ) (branch : Bor PathBuilder) → new ≡ old ++ branch ∷ []
+    → left ≡ i + 1 → i < length branches → branch.now ≡ get_or branches i branch.now → reverse (builders_now old) ≡ drop left branches ++ rest
+    → reverse (builders_now new) ≡ drop i branches ++ rest
+pushed_more old new branches rest left i branch put next within read so = ap (λ bs. reverse (builders_now bs)) put
+    ∙ (ap reverse (map-append (λ (b : Bor PathBuilder). b.now) old (branch ∷ []))
+    ∙ (reverse-append (builders_now old) (branch.now ∷ [])
+    ∙ (ap (λ bs. branch.now ∷ bs) (so ∙ ap (λ n. drop n branches ++ rest) next)
+    ∙ ap (λ bs. bs ++ rest) (sym (drop_read branches i branch.now within read)))))
+
+pub record IsListedSoFar (found : List Definition) (rest : List PathBuilder) (at_search_start : List Definition) (builders : List PathBuilder) : Type 0 where
   pub view : (root : RootView) → map (definition_by_specifier root) found ++ definitions_of_forest (built_paths root rest)
-      ≡ map (definition_by_specifier root) begun ++ definitions_of_forest (built_paths root builders)
-  pub stored : (root : RootView) → AreModulesStored root (map module_of_definition begun) → AreModulesStored root (modules_of_builders builders)
+      ≡ map (definition_by_specifier root) at_search_start ++ definitions_of_forest (built_paths root builders)
+  pub stored : (root : RootView) → AreModulesStored root (map module_of_definition at_search_start) → AreModulesStored root (modules_of_builders builders)
       → AreModulesStored root (map module_of_definition found) × AreModulesStored root (modules_of_builders rest)
 
-pub listed_next : {found more_found begun : List Definition} {rest builders : List PathBuilder} (builder : PathBuilder)
-    → IsListedSoFar found (builder ∷ rest) begun builders
+pub listed_next : {found more_found at_search_start : List Definition} {rest builders : List PathBuilder} (builder : PathBuilder)
+    → IsListedSoFar found (builder ∷ rest) at_search_start builders
     → ((root : RootView) → map (definition_by_specifier root) more_found ≡ map (definition_by_specifier root) found
     ++ definitions_of_forest (built_path root builder)) → ((root : RootView) → AreModulesStored root (map module_of_definition found)
     → AreModulesStored root (modules_of_builder builder) → AreModulesStored root (map module_of_definition more_found))
-    → IsListedSoFar more_found rest begun builders
+    → IsListedSoFar more_found rest at_search_start builders
 listed_next {found = found} {rest = rest} builder is view stored = record {
   view = λ root.
       ap (λ xs. xs ++ definitions_of_forest (built_paths root rest)) (view root)
@@ -46,8 +74,9 @@ listed_next {found = found} {rest = rest} builder is view stored = record {
       (stored root h.0 q.0, q.1);
 }
 
-pub listed_last : {found begun : List Definition} {rest builders : List PathBuilder} → IsListedSoFar found rest begun builders → rest ≡ [] → (root : RootView)
-    → map (definition_by_specifier root) found ≡ map (definition_by_specifier root) begun ++ definitions_of_forest (built_paths root builders)
+pub listed_last : {found at_search_start : List Definition} {rest builders : List PathBuilder} → IsListedSoFar found rest at_search_start builders → rest ≡ [] →
+    (root : RootView)
+    → map (definition_by_specifier root) found ≡ map (definition_by_specifier root) at_search_start ++ definitions_of_forest (built_paths root builders)
 listed_last {found = found} is over root = sym (append-nil (map (definition_by_specifier root) found))
     ∙ (ap (λ xs. map (definition_by_specifier root) found ++ definitions_of_forest (built_paths root xs)) (sym over) ∙ is.view root)
 
@@ -70,24 +99,25 @@ defined_fork root xs branches last =
 -- ---- the loop that replaces definitions: `found` so far, `rest` of the builders left, `ready` the replacements left
 
 pub record AreRebuilt (parts : QualifiedNameParts) (found rest : List PathBuilder) (ready : List (Option PathBuilder)) (builders : List PathBuilder)
-    (begun : List
+    (at_search_start : List
     (Option PathBuilder)) : Type 0 where
   pub view : (root : RootView) → joined_forests (built_paths root found) (rebuilt parts (built_paths root rest) (map (built_paths_of_option root) ready)).0
-      ≡ (rebuilt parts (built_paths root builders) (map (built_paths_of_option root) begun)).0
+      ≡ (rebuilt parts (built_paths root builders) (map (built_paths_of_option root) at_search_start)).0
   pub left : (root : RootView) → (rebuilt parts (built_paths root rest) (map (built_paths_of_option root) ready)).1
-      ≡ (rebuilt parts (built_paths root builders) (map (built_paths_of_option root) begun)).1
-  pub stored : (root : RootView) → AreModulesStored root (modules_of_builders builders) → AreModulesStored root (modules_of_builders (builders_among begun))
+      ≡ (rebuilt parts (built_paths root builders) (map (built_paths_of_option root) at_search_start)).1
+  pub stored : (root : RootView) → AreModulesStored root (modules_of_builders builders) → AreModulesStored root
+      (modules_of_builders (builders_among at_search_start))
       → AreModulesStored root (modules_of_builders found)
       × (AreModulesStored root (modules_of_builders rest) × AreModulesStored root (modules_of_builders (builders_among ready)))
 
 pub rebuilt_next : {parts : QualifiedNameParts} {found rest : List PathBuilder} {ready branches : List (Option PathBuilder)} {builders : List PathBuilder}
-    {begun : List
-    (Option PathBuilder)} (builder : PathBuilder) (put : Option PathBuilder) → AreRebuilt parts found (builder ∷ rest) ready builders begun
+    {at_search_start : List
+    (Option PathBuilder)} (builder : PathBuilder) (put : Option PathBuilder) → AreRebuilt parts found (builder ∷ rest) ready builders at_search_start
     → ((root : RootView) → built_paths_of_option root put ≡ (rebuilt parts (built_path root builder) (map (built_paths_of_option root) ready)).0)
     → ((root : RootView) → map (built_paths_of_option root) branches ≡ (rebuilt parts (built_path root builder) (map (built_paths_of_option root) ready)).1)
     → ((root : RootView) → AreModulesStored root (modules_of_builder builder) → AreModulesStored root (modules_of_builders (builders_among ready))
     → AreModulesStored root (modules_of_builders (option_to_list put)) × AreModulesStored root (modules_of_builders (builders_among branches)))
-    → AreRebuilt parts (found ++ option_to_list put) rest branches builders begun
+    → AreRebuilt parts (found ++ option_to_list put) rest branches builders at_search_start
 rebuilt_next {parts = parts} {found = found} {rest = rest} {ready = ready} {branches = branches} builder put is put_is left_is stored = record {
   view = λ root.
       let r = rebuilt parts (built_path root builder) (map (built_paths_of_option root) ready) in
@@ -107,10 +137,11 @@ rebuilt_next {parts = parts} {found = found} {rest = rest} {ready = ready} {bran
       (stored_with_option root found put h.0 p.0, (q.1, p.1));
 }
 
-pub rebuilt_last : {parts : QualifiedNameParts} {found rest : List PathBuilder} {ready : List (Option PathBuilder)} {builders : List PathBuilder} {begun : List
-    (Option PathBuilder)} → AreRebuilt parts found rest ready builders begun → rest ≡ [] → (root : RootView)
-    → (built_paths root found ≡ (rebuilt parts (built_paths root builders) (map (built_paths_of_option root) begun)).0)
-    × (map (built_paths_of_option root) ready ≡ (rebuilt parts (built_paths root builders) (map (built_paths_of_option root) begun)).1)
+pub rebuilt_last : {parts : QualifiedNameParts} {found rest : List PathBuilder} {ready : List (Option PathBuilder)} {builders : List PathBuilder}
+    {at_search_start : List
+    (Option PathBuilder)} → AreRebuilt parts found rest ready builders at_search_start → rest ≡ [] → (root : RootView)
+    → (built_paths root found ≡ (rebuilt parts (built_paths root builders) (map (built_paths_of_option root) at_search_start)).0)
+    × (map (built_paths_of_option root) ready ≡ (rebuilt parts (built_paths root builders) (map (built_paths_of_option root) at_search_start)).1)
 rebuilt_last {parts = parts} {found = found} {ready = ready} is over root = (
   sym (join_none (built_paths root found)) ∙ (ap (λ xs.
       joined_forests (built_paths root found) (rebuilt parts (built_paths root xs) (map (built_paths_of_option root) ready)).0) (sym over) ∙ is.view root),
@@ -159,12 +190,13 @@ left_of_both parts f g ready mid rest mid_is rest_is =
     rest_is ∙ (ap (λ m. (rebuilt parts g m).1) mid_is ∙ ap (λ (p : PathForest × List PathForest). p.1) (sym (rebuilt_join parts f g ready)))
 
 -- the replacements without the first are of stored modules, and so is the first
-pub popped_stored : (root : RootView) (popped : Option (Option PathBuilder)) (rest begun : List (Option PathBuilder)) → begun ≡ option_to_list popped ++ rest
-    → AreModulesStored root (modules_of_builders (builders_among begun))
+pub popped_stored : (root : RootView) (popped : Option (Option PathBuilder)) (rest at_search_start : List (Option PathBuilder)) → at_search_start
+    ≡ option_to_list popped ++ rest
+    → AreModulesStored root (modules_of_builders (builders_among at_search_start))
     → AreModulesStored root (modules_of_builders (option_to_list (option_flatten popped))) × AreModulesStored root (modules_of_builders (builders_among rest))
-popped_stored root None rest begun e h = (none_stored root, subst (λ xs. AreModulesStored root (modules_of_builders (builders_among xs))) e h)
-popped_stored root (Some None) rest begun e h = (none_stored root, subst (λ xs. AreModulesStored root (modules_of_builders (builders_among xs))) e h)
-popped_stored root (Some (Some builder)) rest begun e h =
+popped_stored root None rest at_search_start e h = (none_stored root, subst (λ xs. AreModulesStored root (modules_of_builders (builders_among xs))) e h)
+popped_stored root (Some None) rest at_search_start e h = (none_stored root, subst (λ xs. AreModulesStored root (modules_of_builders (builders_among xs))) e h)
+popped_stored root (Some (Some builder)) rest at_search_start e h =
     let q = stored_apart root (modules_of_builder builder) (modules_of_builders (builders_among rest))
     (subst (λ xs. AreModulesStored root (modules_of_builders (builders_among xs))) e h) in
     (stored_one root builder q.0, q.1)

@@ -206,7 +206,7 @@ rebuilt_one ps t gs = (λ i. (join_none (rebuilt_tree ps t gs).0 i, (rebuilt_tre
 
 -- ---- the definitions of builders
 
-defined_link_to : (head : LinkHead) (f : PathForest) → definitions_of_forest (link_unless_empty head f) ≡ definitions_of_forest f
+pub defined_link_to : (head : LinkHead) (f : PathForest) → definitions_of_forest (link_unless_empty head f) ≡ definitions_of_forest f
 defined_link_to head no_trees = refl
 defined_link_to head (more_trees t f) = append-nil (definitions_of_forest (more_trees t f))
 

@@ -21,7 +21,7 @@ abbrev pub heads_as : Option QualifiedNameParts → List LinkHead → List LinkH
 heads_as None heads = heads
 heads_as (Some ps) heads = link_heads_with_parts ps heads
 
-heads_as_on : (over : Option QualifiedNameParts) (xs ys : List LinkHead) → heads_as over (xs ++ ys) ≡ heads_as over xs ++ heads_as over ys
+pub heads_as_on : (over : Option QualifiedNameParts) (xs ys : List LinkHead) → heads_as over (xs ++ ys) ≡ heads_as over xs ++ heads_as over ys
 heads_as_on None xs ys = refl
 heads_as_on (Some ps) xs ys = map-append (λ head. link_head_with_parts head ps) xs ys
 

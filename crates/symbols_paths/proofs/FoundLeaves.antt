@@ -3,27 +3,27 @@ use Rattle.std.proofs.Common.{◌≡◌, ℕ, Bool, true, false, List, [], ◌�
 use Rattle.std.specs.Prelude.{Contains}
 use Rattle.symbols_paths.specs.PathTrees.{SymbolBySpecifier, QualifiedNameParts, DefinitionView, LinkHead, PathForest, PathLeaf, definition, joined_forests}
 use Rattle.symbols_paths.specs.PathTrees.{link_unless_empty, leaves_of_forest}
-use Rattle.symbols_paths.specs.DeclTargets.{DeclTargetView, alias, IsDeclTargetAt}
-use Rattle.symbols_paths.specs.PartTargets.{to, SearchRoutes}
-use Rattle.symbols_paths.specs.FirstReach.{HasFirstCandidate, ReplacesLeaf}
-use Rattle.symbols_paths.specs.AliasSearches.{IsLeafByFirstCandidates, IsLeafByFirstCandidatesWithParts, IsReachedWithParts}
+use Rattle.symbols_paths.specs.DeclTargets.{DeclTargetView, alias, IsTargetOfNthDecl}
+use Rattle.symbols_paths.specs.PartTargets.{part_is_symbol, SearchTargets}
+use Rattle.symbols_paths.specs.FirstReach.{HasSymbolAsFirstCandidate, IsLeafWithPartsResolved}
+use Rattle.symbols_paths.specs.AliasSearches.{IsLeafByFirstCandidatesOrAlias, IsLeafByFirstCandidatesWithParts, IsReachedWithParts}
 use Rattle.symbols_paths.specs.AliasSearches as near
 use Rattle.symbols_paths.specs.Choice.{is_visited}
 use Rattle.symbols_paths.proofs.Leaves.{leaves_of_forest-link_unless_empty, only_definition}
 use Rattle.symbols_paths.proofs.FirstReachCovered.{in_left, in_right}
 use Rattle.symbols_paths.proofs.ReachedSymbols.{first_candidate, MayGiveFirst, given_named, first_may_give}
 
-module _ (routes : SearchRoutes) where
+module _ (routes : SearchTargets) where
   -- a declaration is covered: its first candidate is visited, and its leaves by first candidates are in the paths
   pub record HasNamed (s : SymbolBySpecifier) (i : ℕ) (decl_target : DeclTargetView) (f : PathForest) (after : List SymbolBySpecifier) : Type 0 where
-    pub first_is_candidate : (t : SymbolBySpecifier) → HasFirstCandidate decl_target t → is_visited after t ≡ true
+    pub first_is_candidate : (t : SymbolBySpecifier) → HasSymbolAsFirstCandidate decl_target t → is_visited after t ≡ true
     pub may_give_first : (x : PathLeaf) → MayGiveFirst routes s i decl_target x → Contains (leaves_of_forest f) x
 
   -- visited symbols stay visited, and the declarations of those that this step visited are covered
   pub record AreNaming (visited : List SymbolBySpecifier) (f : PathForest) (after : List SymbolBySpecifier) : Type 0 where
     pub retained : (u : SymbolBySpecifier) → is_visited visited u ≡ true → is_visited after u ≡ true
     pub done : (u : SymbolBySpecifier) → is_visited visited u ≡ false → is_visited after u ≡ true → (i : ℕ) (decl_target : DeclTargetView)
-        → IsDeclTargetAt routes.decl_targets u i decl_target → HasNamed u i decl_target f after
+        → IsTargetOfNthDecl routes.decl_targets u i decl_target → HasNamed u i decl_target f after
 
   pub widen_named : {s : SymbolBySpecifier} {i : ℕ} {decl_target : DeclTargetView} {f g : PathForest} {mid after : List SymbolBySpecifier}
       → HasNamed s i decl_target f mid
@@ -40,7 +40,7 @@ module _ (routes : SearchRoutes) where
   naming_both {a = a} {b = b} {c = c} f g x y = record { retained = λ u h. y.retained u (x.retained u h); done = λ u m n. go u m n (is_visited b u) refl }
     where
       go : (u : SymbolBySpecifier) → is_visited a u ≡ false → is_visited c u ≡ true → (v : Bool) → is_visited b u ≡ v → (i : ℕ) (decl_target : DeclTargetView)
-          → IsDeclTargetAt routes.decl_targets u i decl_target → HasNamed u i decl_target (joined_forests f g) c
+          → IsTargetOfNthDecl routes.decl_targets u i decl_target → HasNamed u i decl_target (joined_forests f g) c
       go u m n true e i decl_target st = widen_named (x.done u m e i decl_target st) (in_left f g) y.retained
       go u m n false e i decl_target st = widen_named (y.done u e n i decl_target st) (in_right f g) (λ v h. h)
 
@@ -52,20 +52,22 @@ module _ (routes : SearchRoutes) where
 
   -- a symbol is covered with the parts `r` remaining: its first candidates are visited, and its leaves under the parts are in the paths
   pub record IsDoneUnder (u : SymbolBySpecifier) (r : QualifiedNameParts) (f : PathForest) (after : List SymbolBySpecifier) : Type 0 where
-    pub first_is_candidate : (i : ℕ) (decl_target : DeclTargetView) (t : SymbolBySpecifier) → IsDeclTargetAt routes.decl_targets u i decl_target
-        → HasFirstCandidate decl_target t → is_visited after t ≡ true
-    pub at_last : r ≡ [] → (i : ℕ) (decl_target : DeclTargetView) (x : PathLeaf) → IsDeclTargetAt routes.decl_targets u i decl_target
+    pub first_is_candidate : (i : ℕ) (decl_target : DeclTargetView) (t : SymbolBySpecifier) → IsTargetOfNthDecl routes.decl_targets u i decl_target
+        → HasSymbolAsFirstCandidate decl_target t → is_visited after t ≡ true
+    pub at_last : r ≡ [] → (i : ℕ) (decl_target : DeclTargetView) (x : PathLeaf) → IsTargetOfNthDecl routes.decl_targets u i decl_target
         → MayGiveFirst routes u i decl_target x → Contains (leaves_of_forest f) x
     pub changes : (p : List ℕ) (q : QualifiedNameParts) → r ≡ p ∷ q → (i : ℕ) (decl_target : DeclTargetView) (x y : PathLeaf)
-        → IsDeclTargetAt routes.decl_targets u i decl_target
-        → MayGiveFirst routes u i decl_target x → ReplacesLeaf routes p q x y → Contains (leaves_of_forest f) y
-    pub goes : (p : List ℕ) (q : QualifiedNameParts) → r ≡ p ∷ q → (i : ℕ) (decl_target : DeclTargetView) (x : DefinitionView) (t : SymbolBySpecifier)
-        → IsDeclTargetAt routes.decl_targets u i decl_target → MayGiveFirst routes u i decl_target (definition x) → routes.part x p q ≡ to t
+        → IsTargetOfNthDecl routes.decl_targets u i decl_target
+        → MayGiveFirst routes u i decl_target x → IsLeafWithPartsResolved routes p q x y → Contains (leaves_of_forest f) y
+    pub via_next_symbol : (p : List ℕ) (q : QualifiedNameParts) → r ≡ p ∷ q → (i : ℕ) (decl_target : DeclTargetView) (x : DefinitionView)
+        (t : SymbolBySpecifier)
+        → IsTargetOfNthDecl routes.decl_targets u i decl_target → MayGiveFirst routes u i decl_target (definition x) → routes.part x p q ≡ part_is_symbol t
         → is_visited after t ≡ true
 
   -- the symbols that the part resolves to in these definitions are visited
   pub record AreFollowed (p : List ℕ) (q : QualifiedNameParts) (xs : List PathLeaf) (after : List SymbolBySpecifier) : Type 0 where
-    pub visited_now : (x : DefinitionView) (t : SymbolBySpecifier) → Contains xs (definition x) → routes.part x p q ≡ to t → is_visited after t ≡ true
+    pub visited_now : (x : DefinitionView) (t : SymbolBySpecifier) → Contains xs (definition x) → routes.part x p q ≡ part_is_symbol t → is_visited after t
+        ≡ true
 
   pub at_leaf : (x y : DefinitionView) (p : List ℕ) (q : QualifiedNameParts) → Contains (definition x ∷ []) (definition y)
       → routes.part y p q ≡ routes.part x p q
@@ -92,7 +94,7 @@ module _ (routes : SearchRoutes) where
         first_is_candidate = λ i decl_target t st h. retained t (is.done.first_is_candidate i decl_target t st h);
         at_last = λ e i decl_target x st h. wider x (is.done.at_last e i decl_target x st h);
         changes = λ p q e i decl_target x y st h k. wider y (is.done.changes p q e i decl_target x y st h k);
-        goes = λ p q e i decl_target x t st h k. retained t (is.done.goes p q e i decl_target x t st h k);
+        via_next_symbol = λ p q e i decl_target x t st h k. retained t (is.done.via_next_symbol p q e i decl_target x t st h k);
       };
     }
 
@@ -124,17 +126,17 @@ module _ (routes : SearchRoutes) where
         decl_target : DeclTargetView
         reached : IsReachedWithParts routes start parts s r
         is_now : is_visited after s ≡ true
-        occurs : IsDeclTargetAt routes.decl_targets s i decl_target
+        occurs : IsTargetOfNthDecl routes.decl_targets s i decl_target
         may_give : MayGiveFirst routes s i decl_target x
 
       view : {s : SymbolBySpecifier} {r : QualifiedNameParts} {x : PathLeaf} → IsReachedWithParts routes start parts s r → is_visited after s ≡ true
-          → IsLeafByFirstCandidates routes s x
+          → IsLeafByFirstCandidatesOrAlias routes s x
           → NamedBy r x
-      view w m (near.given {s = s} {x = x} i decl_target st g) =
+      view w m (near.leaf_of_decl_itself {s = s} {x = x} i decl_target st g) =
           record { s = s; i = i; decl_target = decl_target; reached = w; is_now = m; occurs = st; may_give = given_named routes s i decl_target x g }
-      view w m (near.led {s = s} i decl_target t st l h) =
-          view (near.led s i decl_target w st (first_candidate decl_target t l)) ((here_done s m).done.first_is_candidate i decl_target t st l) h
-      view w m (near.by_alias {s = s} i t ps st h) = record { s = s; i = i; decl_target = alias t ps; reached = w; is_now = m; occurs = st; may_give = h }
+      view w m (near.via_candidate {s = s} i decl_target t st l h) =
+          view (near.via_candidate s i decl_target w st (first_candidate decl_target t l)) ((here_done s m).done.first_is_candidate i decl_target t st l) h
+      view w m (near.via_alias {s = s} i t ps st h) = record { s = s; i = i; decl_target = alias t ps; reached = w; is_now = m; occurs = st; may_give = h }
 
       pub walk_given : {s : SymbolBySpecifier} {r : QualifiedNameParts} {y : PathLeaf} → IsReachedWithParts routes start parts s r → is_visited after s ≡ true
           → IsLeafByFirstCandidatesWithParts routes s r y → Contains (leaves_of_forest f) y
@@ -146,10 +148,10 @@ module _ (routes : SearchRoutes) where
           let k = view w m h in
           let q = here_done k.s k.is_now in
           q.done.changes p r (once k.s q.parts_left (p ∷ r) q.reached k.reached) k.i k.decl_target x y k.occurs k.may_give gl
-      walk_given w m (near.goes {p = p} {r = r} x t h e n) =
+      walk_given w m (near.via_next_symbol {p = p} {r = r} x t h e n) =
           let k = view w m h in
           let q = here_done k.s k.is_now in
           walk_given
-          (near.goes k.s k.i k.decl_target x p k.reached k.occurs (first_may_give routes k.s k.i k.decl_target (definition x) k.may_give) e)
-          (q.done.goes p r (once k.s q.parts_left (p ∷ r) q.reached k.reached) k.i k.decl_target x t k.occurs k.may_give e)
+          (near.via_next_symbol k.s k.i k.decl_target x p k.reached k.occurs (first_may_give routes k.s k.i k.decl_target (definition x) k.may_give) e)
+          (q.done.via_next_symbol p r (once k.s q.parts_left (p ∷ r) q.reached k.reached) k.i k.decl_target x t k.occurs k.may_give e)
           n

@@ -11,21 +11,21 @@ use Rattle.symbols_ast.specs.declared.ids.ModuleId.{ModuleId}
 use Rattle.symbols_ast.specs.declared.ids.UniqueSymbolId.{UniqueSymbolId}
 use Rattle.symbols_root.specs.Roots.{RootView, specifier_in}
 use Rattle.symbols_root.specs.Growing.{HasGrown}
-use Rattle.symbols_root.specs.laws.Growing.{still_stored}
-use Rattle.symbols_paths.specs.PartTargets.{routes_of, routes_of_root}
+use Rattle.symbols_root.specs.laws.Growing.{stored_id_remains_stored}
+use Rattle.symbols_paths.specs.PartTargets.{search_targets_of, search_targets_of_root}
 use Rattle.symbols_paths.specs.Views.{AreModulesStored}
 use Rattle.symbols_paths.specs.inner.SearchSteps.{AreSymbolsStored}
 
 -- a root that stores more searches by the same routes
-pub same_links : {root more : RootView} → HasGrown root more → routes_of_root more ≡ routes_of_root root
-same_links grown = λ i. routes_of (grown.rules i) (grown.graph i)
+pub same_links : {root more : RootView} → HasGrown root more → search_targets_of_root more ≡ search_targets_of_root root
+same_links grown = λ i. search_targets_of (grown.rules i) (grown.graph i)
 
 pub still_numbered : {root more : RootView} → HasGrown root more → (visited : List UniqueSymbolId) → AreSymbolsStored root visited
     → AreSymbolsStored more visited
-still_numbered grown visited numbered = λ k d within. still_stored grown (get_or visited k d).module_id.0 (numbered k d within)
+still_numbered grown visited numbered = λ k d within. stored_id_remains_stored grown (get_or visited k d).module_id.0 (numbered k d within)
 
 pub all_still_stored : {root more : RootView} → HasGrown root more → (ids : List ModuleId) → AreModulesStored root ids → AreModulesStored more ids
-all_still_stored grown ids stored = λ k d within. still_stored grown (get_or ids k d).0 (stored k d within)
+all_still_stored grown ids stored = λ k d within. stored_id_remains_stored grown (get_or ids k d).0 (stored k d within)
 
 -- stored modules have the same id if they have the same specifier
 same_index : (xs : List (List ℕ)) → IsDistinct bytes_eq xs → (i j : ℕ) → i < length xs → j < length xs → bytes_eq (get_or xs i []) (get_or xs j []) ≡ true

@@ -1,4 +1,4 @@
--- Each leaf of the chosen paths is one of the symbol's, and is replaced under a part as `ReplacesLeaf` says.
+-- Each leaf of the chosen paths is one of the symbol's, and is replaced under a part as `IsLeafWithPartsResolved` says.
 use Rattle.std.proofs.Common.{◌≡◌, ℕ, zero, suc, ◌+◌, inl, inr, List, [], ◌∷◌, ◌++◌, Option, None, Some, refl, sym, ◌∙◌, subst, arith, append_assoc, append-nil}
 use Rattle.std.specs.Prelude.{Contains, slice_get}
 use Rattle.std.proofs.lemmas.List.Elements.{Contains-append_left, Contains-append_right, Contains-append_cases}
@@ -6,15 +6,19 @@ use Rattle.symbols_paths.specs.PathTrees.{SymbolBySpecifier, DeclBySpecifier, Qu
 use Rattle.symbols_paths.specs.PathTrees.{PathForest, PathLeaf, definition}
 use Rattle.symbols_paths.specs.PathTrees.{unresolved, leaf, no_trees, more_trees, forest_of_tree, joined_forests, link_unless_empty, leaves_of_tree}
 use Rattle.symbols_paths.specs.PathTrees.{leaves_of_forest}
-use Rattle.symbols_paths.specs.DeclTargets.{ForwardTarget, DeclTargetView, defines, forwards, IsDeclTargetAt}
-use Rattle.symbols_paths.specs.PartTargets.{to, itself, lacks, SearchRoutes}
-use Rattle.symbols_paths.specs.Derived.{definition_of_decl, link_head_at, alias_link_head, part_link_head, link_head_with_parts}
-use Rattle.symbols_paths.specs.FirstReach.{IsLeafOfSymbol, IsLeafWithParts, ReplacesLeaf, stays, is_itself, lacks_it}
+use Rattle.symbols_paths.specs.DeclTargets.{ForwardTarget, DeclTargetView, defines, forwards, IsTargetOfNthDecl}
+use Rattle.symbols_paths.specs.PartTargets.{part_is_symbol, itself, part_is_unresolved, SearchTargets}
+use Rattle.symbols_paths.specs.Derived.{definition_of_decl, link_head_of_forward, alias_link_head, part_link_head, link_head_with_parts}
+use Rattle.symbols_paths.specs.FirstReach.{IsLeafOfSymbol, IsLeafWithParts, IsLeafWithPartsResolved, unresolved_leaf_stays, definition_stays_itself}
+use Rattle.symbols_paths.specs.FirstReach.{leaf_lacks_part}
 use Rattle.symbols_paths.specs.FirstReach as reach
-use Rattle.symbols_paths.specs.Choice.{FindsPaths, already_visited, is_new, ExpandsDecls, at_end, step, FollowsDecl, by_itself, by_forward, by_running}
-use Rattle.symbols_paths.specs.Choice.{by_alias, TriesCandidates, no_more, first_with, passes, ResolvesParts, no_parts, under, ReplacesDefinitions}
-use Rattle.symbols_paths.specs.Choice.{of_none, of_more, ReplacesDefinition, of_unresolved, of_link, of_definition, of_itself, of_lacking, forest_of_unresolved}
-use Rattle.symbols_paths.specs.laws.OneOutcome.{lacks_same}
+use Rattle.symbols_paths.specs.Choice.{IsOutcomeOfSymbolSearch, already_visited, is_new, IsOutcomeOfDeclListSearch, no_decl_left, step, IsOutcomeOfDeclSearch}
+use Rattle.symbols_paths.specs.Choice.{decl_is_definition, decl_forwards, by_alias_being_resolved}
+use Rattle.symbols_paths.specs.Choice.{via_alias, IsOutcomeOfCandidateSearch, no_candidate_left, first_candidate_with_paths, candidate_has_no_path}
+use Rattle.symbols_paths.specs.Choice.{IsOutcomeOfSearchWithParts, no_parts, under, IsOutcomeOfPartsInForest}
+use Rattle.symbols_paths.specs.Choice.{no_tree_left, tree_then_forest, IsOutcomeOfPartsInTree, unresolved_leaf_is_unchanged, link_gets_resolved_forest}
+use Rattle.symbols_paths.specs.Choice.{definition_has_part, definition_is_part_itself, definition_has_no_part, forest_of_unresolved}
+use Rattle.symbols_paths.specs.laws.OneOutcome.{entries_of_same_part_target}
 
 -- ---- constructors are injective, and the items of a list of one
 
@@ -48,26 +52,26 @@ leaves_of_forest-link_unless_empty head no_trees = refl
 leaves_of_forest-link_unless_empty head (more_trees t f) = append-nil (leaves_of_forest (more_trees t f))
 
 -- `xs` are the targets of the symbol's declarations from the index on
-pub record IsTail (routes : SearchRoutes) (s : SymbolBySpecifier) (i : ℕ) (xs : List DeclTargetView) : Type 0 where
-  pub occurs : (k : ℕ) (x : DeclTargetView) → slice_get xs k ≡ Some x → IsDeclTargetAt routes.decl_targets s (i + k) x
+pub record IsTail (routes : SearchTargets) (s : SymbolBySpecifier) (i : ℕ) (xs : List DeclTargetView) : Type 0 where
+  pub occurs : (k : ℕ) (x : DeclTargetView) → slice_get xs k ≡ Some x → IsTargetOfNthDecl routes.decl_targets s (i + k) x
 
-pub later : {routes : SearchRoutes} {s : SymbolBySpecifier} {i : ℕ} {x : DeclTargetView} {xs : List DeclTargetView} → IsTail routes s i (x ∷ xs)
+pub later : {routes : SearchTargets} {s : SymbolBySpecifier} {i : ℕ} {x : DeclTargetView} {xs : List DeclTargetView} → IsTail routes s i (x ∷ xs)
     → IsTail routes s (i + 1) xs
 later {routes = routes} {s = s} {i = i} h =
     record {
       occurs = λ k x q. let over : i + suc k ≡ i + 1 + k =
-          omega arith in subst (λ z. IsDeclTargetAt routes.decl_targets s z x) over (h.occurs (suc k) x q);
+          omega arith in subst (λ z. IsTargetOfNthDecl routes.decl_targets s z x) over (h.occurs (suc k) x q);
     }
 
-pub here : {routes : SearchRoutes} {s : SymbolBySpecifier} {i : ℕ} {x : DeclTargetView} {xs : List DeclTargetView} → IsTail routes s i (x ∷ xs)
-    → IsDeclTargetAt routes.decl_targets s i x
+pub here : {routes : SearchTargets} {s : SymbolBySpecifier} {i : ℕ} {x : DeclTargetView} {xs : List DeclTargetView} → IsTail routes s i (x ∷ xs)
+    → IsTargetOfNthDecl routes.decl_targets s i x
 here {routes = routes} {s = s} {i = i} {x = x} h =
     let without_alias : i + 0 ≡ i = omega arith in
-    subst (λ z. IsDeclTargetAt routes.decl_targets s z x) without_alias (h.occurs 0 x refl)
+    subst (λ z. IsTargetOfNthDecl routes.decl_targets s z x) without_alias (h.occurs 0 x refl)
 
-pub whole : (routes : SearchRoutes) (s : SymbolBySpecifier) → IsTail routes s 0 (routes.decl_targets s)
+pub whole : (routes : SearchTargets) (s : SymbolBySpecifier) → IsTail routes s 0 (routes.decl_targets s)
 whole routes s =
-    record { occurs = λ k x q. let without_alias : k ≡ 0 + k = omega arith in subst (λ z. IsDeclTargetAt routes.decl_targets s z x) without_alias q }
+    record { occurs = λ k x q. let without_alias : k ≡ 0 + k = omega arith in subst (λ z. IsTargetOfNthDecl routes.decl_targets s z x) without_alias q }
 
 -- each leaf has the property
 pub record AllIn (P : PathLeaf → Type 0) (f : PathForest) : Type 0 where
@@ -103,100 +107,108 @@ tree_and_forest t f a = (
   record { each = λ x h. a.each x (Contains-append_right (leaves_of_tree t) (leaves_of_forest f) x h) },
 )
 
-module _ (routes : SearchRoutes) (limit : ℕ) where
+module _ (routes : SearchTargets) (limit : ℕ) where
   mutual
     pub finds_leaf : {running : List DeclBySpecifier} {visited after : List SymbolBySpecifier} {s : SymbolBySpecifier} {f : PathForest}
-        → FindsPaths routes limit running visited s f after → AllIn (IsLeafOfSymbol routes s) f
+        → IsOutcomeOfSymbolSearch routes limit running visited s f after → AllIn (IsLeafOfSymbol routes s) f
     finds_leaf (already_visited e) = in_none
     finds_leaf (is_new {s = s} e x) = expands_leaf (whole routes s) x
 
     expands_leaf : {running : List DeclBySpecifier} {visited after : List SymbolBySpecifier} {s : SymbolBySpecifier} {i : ℕ} {xs : List DeclTargetView}
         {f : PathForest}
-        → IsTail routes s i xs → ExpandsDecls routes limit running visited s i xs f after → AllIn (IsLeafOfSymbol routes s) f
-    expands_leaf st at_end = in_none
+        → IsTail routes s i xs → IsOutcomeOfDeclListSearch routes limit running visited s i xs f after → AllIn (IsLeafOfSymbol routes s) f
+    expands_leaf st no_decl_left = in_none
     expands_leaf st (step {f = f} {rest = g} x y) = in_join f g (follows_leaf (here st) x) (expands_leaf (later st) y)
 
     follows_leaf : {running : List DeclBySpecifier} {visited after : List SymbolBySpecifier} {s : SymbolBySpecifier} {i : ℕ} {decl_target : DeclTargetView}
         {f : PathForest}
-        → IsDeclTargetAt routes.decl_targets s i decl_target → FollowsDecl routes limit running visited s i decl_target f after
+        → IsTargetOfNthDecl routes.decl_targets s i decl_target → IsOutcomeOfDeclSearch routes limit running visited s i decl_target f after
         → AllIn (IsLeafOfSymbol routes s) f
-    follows_leaf st (by_itself {s = s} {i = i} {range = range} {star = star}) =
-        in_one (definition (definition_of_decl s i range star)) (reach.given i (defines range star) st refl)
-    follows_leaf st (by_forward {s = s} {i = i} {forward = forward} {f = f} x) =
-        in_link (link_head_at s i forward) f (tries_leaf i forward st (λ c h. h) (λ m e. e) x)
-    follows_leaf st (by_running e) = in_none
-    follows_leaf st (by_alias {s = s} {t = t} {i = i} {ps = ps} {f = f} e few fits x) =
-        in_link (alias_link_head s i ps) f (onward (λ y h. reach.by_alias i t ps st h) (walks_leaf x))
+    follows_leaf st (decl_is_definition {s = s} {i = i} {range = range} {star = star}) =
+        in_one (definition (definition_of_decl s i range star)) (reach.leaf_of_decl_itself i (defines range star) st refl)
+    follows_leaf st (decl_forwards {s = s} {i = i} {forward = forward} {f = f} x) =
+        in_link (link_head_of_forward s i forward) f (tries_leaf i forward st (λ c h. h) (λ m e. e) x)
+    follows_leaf st (by_alias_being_resolved e) = in_none
+    follows_leaf st (via_alias {s = s} {t = t} {i = i} {ps = ps} {f = f} e few fits x) =
+        in_link (alias_link_head s i ps) f (onward (λ y h. reach.via_alias i t ps st h) (walks_leaf x))
 
     tries_leaf : {running : List DeclBySpecifier} {visited after : List SymbolBySpecifier} {s : SymbolBySpecifier} {cs : List SymbolBySpecifier}
         {otherwise : Option UnresolvedEntry}
-        {f : PathForest} (i : ℕ) (forward : ForwardTarget) → IsDeclTargetAt routes.decl_targets s i (forwards forward)
+        {f : PathForest} (i : ℕ) (forward : ForwardTarget) → IsTargetOfNthDecl routes.decl_targets s i (forwards forward)
         → ((c : SymbolBySpecifier) → Contains cs c
         → Contains forward.candidates c) → ((m : UnresolvedEntry) → otherwise ≡ Some m → forward.otherwise ≡ Some m)
-        → TriesCandidates routes limit running visited cs otherwise f after → AllIn (IsLeafOfSymbol routes s) f
-    tries_leaf i forward st h k (no_more {otherwise = otherwise}) = in_missing otherwise (λ m e. reach.given i (forwards forward) st (m, k m e, refl))
-    tries_leaf i forward st h k (first_with {c = c} x) = onward (λ y p. reach.led i (forwards forward) c st (h c (0, omega arith, refl)) p) (finds_leaf x)
-    tries_leaf i forward st h k (passes x y) = tries_leaf i forward st (λ c q. h c (suc q.0, omega (arith, q.1), q.2)) k y
+        → IsOutcomeOfCandidateSearch routes limit running visited cs otherwise f after → AllIn (IsLeafOfSymbol routes s) f
+    tries_leaf i forward st h k (no_candidate_left {otherwise = otherwise}) = in_missing otherwise (λ m e. reach.leaf_of_decl_itself i (forwards forward) st
+        (m, k m e, refl))
+    tries_leaf i forward st h k (first_candidate_with_paths {c = c} x) = onward (λ y p. reach.via_candidate i (forwards forward) c st
+        (h c (0, omega arith, refl)) p) (finds_leaf x)
+    tries_leaf i forward st h k (candidate_has_no_path x y) = tries_leaf i forward st (λ c q. h c (suc q.0, omega (arith, q.1), q.2)) k y
 
     pub walks_leaf : {running : List DeclBySpecifier} {visited after : List SymbolBySpecifier} {s : SymbolBySpecifier} {ps : QualifiedNameParts}
         {f : PathForest}
-        → ResolvesParts routes limit running visited s ps f after → AllIn (IsLeafWithParts routes s ps) f
+        → IsOutcomeOfSearchWithParts routes limit running visited s ps f after → AllIn (IsLeafWithParts routes s ps) f
     walks_leaf (no_parts x) = onward (λ y h. reach.no_parts h) (finds_leaf x)
     walks_leaf (under {s = s} x y) = changes_leaf s (finds_leaf x) y
 
     changes_leaf : {running : List DeclBySpecifier} {visited after : List SymbolBySpecifier} {p : List ℕ} {ps : QualifiedNameParts} {f g : PathForest}
         (s : SymbolBySpecifier)
-        → AllIn (IsLeafOfSymbol routes s) f → ReplacesDefinitions routes limit running visited p ps f g after → AllIn (IsLeafWithParts routes s (p ∷ ps)) g
-    changes_leaf s a of_none = in_none
-    changes_leaf s a (of_more {t = t} {f = f} {g = g} {h = h} x y) = let b = tree_and_forest t f a in in_join g h (change_leaf s b.0 x) (changes_leaf s b.1 y)
+        → AllIn (IsLeafOfSymbol routes s) f → IsOutcomeOfPartsInForest routes limit running visited p ps f g after → AllIn (IsLeafWithParts routes s (p ∷ ps)) g
+    changes_leaf s a no_tree_left = in_none
+    changes_leaf s a (tree_then_forest {t = t} {f = f} {g = g} {h = h} x y) = let b = tree_and_forest t f a in in_join g h (change_leaf s b.0 x)
+        (changes_leaf s b.1 y)
 
     change_leaf : {running : List DeclBySpecifier} {visited after : List SymbolBySpecifier} {p : List ℕ} {ps : QualifiedNameParts} {t : PathTree}
         {g : PathForest} (s : SymbolBySpecifier)
-        → AllIn (IsLeafOfSymbol routes s) (forest_of_tree t) → ReplacesDefinition routes limit running visited p ps t g after
+        → AllIn (IsLeafOfSymbol routes s) (forest_of_tree t) → IsOutcomeOfPartsInTree routes limit running visited p ps t g after
         → AllIn (IsLeafWithParts routes s (p ∷ ps)) g
-    change_leaf s a (of_unresolved {m = m}) = in_one (unresolved m) (reach.stays m (a.each (unresolved m) (0, omega arith, refl)))
-    change_leaf s a (of_link {p = p} {ps = ps} {head = head} {f = f} {g = g} x) =
+    change_leaf s a (unresolved_leaf_is_unchanged {m = m}) = in_one (unresolved m)
+        (reach.unresolved_leaf_stays m (a.each (unresolved m) (0, omega arith, refl)))
+    change_leaf s a (link_gets_resolved_forest {p = p} {ps = ps} {head = head} {f = f} {g = g} x) =
         in_link (link_head_with_parts head (p ∷ ps)) g (changes_leaf s (record { each = λ y h. a.each y (Contains-append_left (leaves_of_forest f) [] y h) }) x)
-    change_leaf s a (of_definition {p = p} {ps = ps} {x = d} {t = t} {f = f} e x) =
-        in_link (part_link_head d (p ∷ ps)) f (onward (λ y h. reach.goes d t (a.each (definition d) (0, omega arith, refl)) e h) (walks_leaf x))
-    change_leaf s a (of_itself {x = d} e) = in_one (definition d) (reach.is_itself d (a.each (definition d) (0, omega arith, refl)) e)
-    change_leaf s a (of_lacking {p = p} {ps = ps} {x = d} {m = m} e) = in_link (part_link_head d (p ∷ ps)) (forest_of_tree (leaf (unresolved m)))
-        (in_one (unresolved m) (reach.lacking d m (a.each (definition d) (0, omega arith, refl)) e))
+    change_leaf s a (definition_has_part {p = p} {ps = ps} {x = d} {t = t} {f = f} e x) =
+        in_link (part_link_head d (p ∷ ps)) f (onward (λ y h. reach.via_next_symbol d t (a.each (definition d) (0, omega arith, refl)) e h) (walks_leaf x))
+    change_leaf s a (definition_is_part_itself {x = d} e) = in_one (definition d)
+        (reach.definition_stays_itself d (a.each (definition d) (0, omega arith, refl)) e)
+    change_leaf s a (definition_has_no_part {p = p} {ps = ps} {x = d} {m = m} e) = in_link (part_link_head d (p ∷ ps)) (forest_of_tree (leaf (unresolved m)))
+        (in_one (unresolved m) (reach.definition_lacks_part d m (a.each (definition d) (0, omega arith, refl)) e))
 
 -- ---- the leaf that a leaf comes to under a part
 
-module _ (routes : SearchRoutes) (limit : ℕ) where
-  at_leaf : {p : List ℕ} {ps : QualifiedNameParts} (z x y : PathLeaf) → Contains (z ∷ []) x → ReplacesLeaf routes p ps x y → ReplacesLeaf routes p ps z y
-  at_leaf {p = p} {ps = ps} z x y h is = subst (λ w. ReplacesLeaf routes p ps w y) (sym (only_this z x h)) is
+module _ (routes : SearchTargets) (limit : ℕ) where
+  at_leaf : {p : List ℕ} {ps : QualifiedNameParts} (z x y : PathLeaf) → Contains (z ∷ []) x → IsLeafWithPartsResolved routes p ps x y
+      → IsLeafWithPartsResolved routes p ps z y
+  at_leaf {p = p} {ps = ps} z x y h is = subst (λ w. IsLeafWithPartsResolved routes p ps w y) (sym (only_this z x h)) is
 
-  given_unresolved : {p : List ℕ} {ps : QualifiedNameParts} {m : UnresolvedEntry} {y : PathLeaf} → ReplacesLeaf routes p ps (unresolved m) y
+  given_unresolved : {p : List ℕ} {ps : QualifiedNameParts} {m : UnresolvedEntry} {y : PathLeaf} → IsLeafWithPartsResolved routes p ps (unresolved m) y
       → Contains (leaves_of_forest (forest_of_tree (leaf (unresolved m)))) y
-  given_unresolved (stays {m = m}) = first_leaf (unresolved m)
+  given_unresolved (unresolved_leaf_stays {m = m}) = first_leaf (unresolved m)
 
-  given_walk : {p : List ℕ} {ps : QualifiedNameParts} {d : DefinitionView} {t : SymbolBySpecifier} {y : PathLeaf} → routes.part d p ps ≡ to t
-      → ReplacesLeaf routes p ps (definition d) y → ⊥
-  given_walk e (is_itself q) = cc
-  given_walk e (lacks_it q) = cc
+  given_walk : {p : List ℕ} {ps : QualifiedNameParts} {d : DefinitionView} {t : SymbolBySpecifier} {y : PathLeaf} → routes.part d p ps ≡ part_is_symbol t
+      → IsLeafWithPartsResolved routes p ps (definition d) y → ⊥
+  given_walk e (definition_stays_itself q) = cc
+  given_walk e (leaf_lacks_part q) = cc
 
   given_itself : {p : List ℕ} {ps : QualifiedNameParts} {d : DefinitionView} {y : PathLeaf} → routes.part d p ps ≡ itself
-      → ReplacesLeaf routes p ps (definition d) y
+      → IsLeafWithPartsResolved routes p ps (definition d) y
       → Contains (leaves_of_forest (forest_of_tree (leaf (definition d)))) y
-  given_itself e (is_itself {y = d} q) = first_leaf (definition d)
-  given_itself e (lacks_it q) = cc
+  given_itself e (definition_stays_itself {y = d} q) = first_leaf (definition d)
+  given_itself e (leaf_lacks_part q) = cc
 
-  given_lack : {p : List ℕ} {ps : QualifiedNameParts} {d : DefinitionView} {m : UnresolvedEntry} {y : PathLeaf} → routes.part d p ps ≡ lacks m
-      → ReplacesLeaf routes p ps (definition d) y
+  given_lack : {p : List ℕ} {ps : QualifiedNameParts} {d : DefinitionView} {m : UnresolvedEntry} {y : PathLeaf} → routes.part d p ps ≡ part_is_unresolved m
+      → IsLeafWithPartsResolved routes p ps (definition d) y
       → Contains (leaves_of_forest (forest_of_tree (leaf (unresolved m)))) y
-  given_lack e (is_itself q) = cc
-  given_lack {m = m} e (lacks_it {m = n} q) =
-      subst (λ z. Contains (leaves_of_forest (forest_of_tree (leaf (unresolved m)))) (unresolved z)) (lacks_same m n (sym e ∙ q)) (first_leaf (unresolved m))
+  given_lack e (definition_stays_itself q) = cc
+  given_lack {m = m} e (leaf_lacks_part {m = n} q) =
+      subst (λ z. Contains (leaves_of_forest (forest_of_tree (leaf (unresolved m)))) (unresolved z)) (entries_of_same_part_target m n (sym e ∙ q))
+      (first_leaf (unresolved m))
 
   mutual
     pub changes_gives : {running : List DeclBySpecifier} {visited after : List SymbolBySpecifier} {p : List ℕ} {ps : QualifiedNameParts} {f g : PathForest}
-        → ReplacesDefinitions routes limit running visited p ps f g after → (x y : PathLeaf) → Contains (leaves_of_forest f) x → ReplacesLeaf routes p ps x y
+        → IsOutcomeOfPartsInForest routes limit running visited p ps f g after → (x y : PathLeaf) → Contains (leaves_of_forest f) x
+        → IsLeafWithPartsResolved routes p ps x y
         → Contains (leaves_of_forest g) y
-    changes_gives of_none x y h is = absurd (omega (arith, h.1))
-    changes_gives (of_more {t = t} {f = f} {g = g} {h = k} a b) x y h is =
+    changes_gives no_tree_left x y h is = absurd (omega (arith, h.1))
+    changes_gives (tree_then_forest {t = t} {f = f} {g = g} {h = k} a b) x y h is =
         rw (leaves_of_forest-join g k) (elim (Contains-append_cases (leaves_of_tree t) (leaves_of_forest f) x h) [
           | inl q ↦ Contains-append_left (leaves_of_forest g) (leaves_of_forest k) y (change_gives a x y q is)
           | inr q ↦ Contains-append_right (leaves_of_forest g) (leaves_of_forest k) y (changes_gives b x y q is)
@@ -204,11 +216,12 @@ module _ (routes : SearchRoutes) (limit : ℕ) where
 
     change_gives : {running : List DeclBySpecifier} {visited after : List SymbolBySpecifier} {p : List ℕ} {ps : QualifiedNameParts} {t : PathTree}
         {g : PathForest}
-        → ReplacesDefinition routes limit running visited p ps t g after → (x y : PathLeaf) → Contains (leaves_of_tree t) x → ReplacesLeaf routes p ps x y
+        → IsOutcomeOfPartsInTree routes limit running visited p ps t g after → (x y : PathLeaf) → Contains (leaves_of_tree t) x
+        → IsLeafWithPartsResolved routes p ps x y
         → Contains (leaves_of_forest g) y
-    change_gives (of_unresolved {m = m}) x y h is = given_unresolved (at_leaf (unresolved m) x y h is)
-    change_gives (of_link {p = p} {ps = ps} {head = head} {g = g} a) x y h is =
+    change_gives (unresolved_leaf_is_unchanged {m = m}) x y h is = given_unresolved (at_leaf (unresolved m) x y h is)
+    change_gives (link_gets_resolved_forest {p = p} {ps = ps} {head = head} {g = g} a) x y h is =
         rw (leaves_of_forest-link_unless_empty (link_head_with_parts head (p ∷ ps)) g) (changes_gives a x y h is)
-    change_gives (of_definition {x = d} e a) x y h is = absurd (given_walk e (at_leaf (definition d) x y h is))
-    change_gives (of_itself {x = d} e) x y h is = given_itself e (at_leaf (definition d) x y h is)
-    change_gives (of_lacking {x = d} e) x y h is = given_lack e (at_leaf (definition d) x y h is)
+    change_gives (definition_has_part {x = d} e a) x y h is = absurd (given_walk e (at_leaf (definition d) x y h is))
+    change_gives (definition_is_part_itself {x = d} e) x y h is = given_itself e (at_leaf (definition d) x y h is)
+    change_gives (definition_has_no_part {x = d} e) x y h is = given_lack e (at_leaf (definition d) x y h is)

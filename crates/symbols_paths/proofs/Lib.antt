@@ -24,11 +24,11 @@ mod SearchSteps
 mod Sets
 mod SearchPreconditions
 mod ChosenComputed
-mod DeclLoop
+mod DeclReads
 mod QualifiedSteps
 mod Answering
 mod Forwards
-mod StarLoop
+mod StarReads
 mod LeafNeeds
 mod SearchedExports
 mod Needing
@@ -36,3 +36,22 @@ mod PathEnds
 mod BuilderDefinitions
 mod DepEntries
 mod StoredNeeded
+pub mod DropOrder
+pub mod DropPaths
+mod DropBuilders
+mod VisitedBuilders
+mod OpenForks
+mod OpenReplacements
+mod NextDecls
+mod ComingPaths
+mod SearchWork
+mod GrownSearches
+mod DeclSteps
+mod AliasSteps
+mod ImportSteps
+mod StarSteps
+mod SymbolSteps
+mod ResumedSteps
+mod ReplacedNeeds
+mod PartsSteps
+mod SearchLoop

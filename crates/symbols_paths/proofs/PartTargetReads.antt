@@ -13,7 +13,8 @@ use Rattle.symbols_root.specs.Roots.{RootView, specifier_in}
 use Rattle.symbols_root.specs.Growing.{HasGrown}
 use Rattle.symbols_exports.specs.OneName.{find_export}
 use Rattle.symbols_paths.specs.PathTrees.{DeclBySpecifier, QualifiedNameParts, no_part}
-use Rattle.symbols_paths.specs.PartTargets.{lacks, itself, prototype_name, is_class_at, exported_part_target, module_part_target, import_part_target}
+use Rattle.symbols_paths.specs.PartTargets.{part_is_unresolved, itself, prototype_name, is_class_decl_at, exported_part_target, module_part_target}
+use Rattle.symbols_paths.specs.PartTargets.{import_part_target}
 use Rattle.symbols_paths.specs.Views.{strings_view}
 use Rattle.symbols_paths.specs.inner.Views.{first_part}
 
@@ -24,12 +25,12 @@ first_read (x ∷ xs) part some is = ap (λ p. string_bytes p) is
 
 -- a part that the symbol doesn't export, and that isn't `prototype` of a class, is unresolved
 pub lacks_explicit : (graph : GraphView) (decl : DeclBySpecifier) (part : List ℕ) (remaining : QualifiedNameParts) (found : Option SymbolId) → found ≡ None
-    → (bytes_eq prototype_name part && is_class_at graph decl) ≡ false
-    → exported_part_target graph decl part remaining found ≡ lacks
+    → (bytes_eq prototype_name part && is_class_decl_at graph decl) ≡ false
+    → exported_part_target graph decl part remaining found ≡ part_is_unresolved
     (record { specifier = decl.symbol.specifier; reason = no_part part; parts = part ∷ remaining })
 lacks_explicit graph decl part remaining found none without_alias =
     ap (exported_part_target graph decl part remaining) none ∙ ap (λ (b : Bool). if b then itself
-    else lacks (record { specifier = decl.symbol.specifier; reason = no_part part; parts = part ∷ remaining })) without_alias
+    else part_is_unresolved (record { specifier = decl.symbol.specifier; reason = no_part part; parts = part ∷ remaining })) without_alias
 
 -- two texts that differ, differ in either order
 pub bytes_swapped : (a b : List ℕ) → bytes_eq a b ≡ false → bytes_eq b a ≡ false

@@ -41,28 +41,29 @@ leaves_of_link root l = ap (λ t. leaves_of_tree t) (
 
 -- the invariant: the ends so far, and `rest` of the paths left
 abbrev pub AreEndsSo : List DefinitionOrUnresolved → List DefinitionPathNode → List DefinitionOrUnresolved → List DefinitionPathNode → Type 0
-AreEndsSo left rest begun paths = (root : RootView)
-    → map (path_leaf_of_end root) left ++ leaves_of_forest (paths_by_specifier root rest) ≡ map (path_leaf_of_end root) begun
+AreEndsSo left rest at_search_start paths = (root : RootView)
+    → map (path_leaf_of_end root) left ++ leaves_of_forest (paths_by_specifier root rest) ≡ map (path_leaf_of_end root) at_search_start
     ++ leaves_of_forest (paths_by_specifier root paths)
 
-pub ends_next : (left more_left begun : List DefinitionOrUnresolved) (path : DefinitionPathNode) (rest paths : List DefinitionPathNode)
-    → AreEndsSo left (path ∷ rest) begun paths → ((root : RootView)
+pub ends_next : (left more_left at_search_start : List DefinitionOrUnresolved) (path : DefinitionPathNode) (rest paths : List DefinitionPathNode)
+    → AreEndsSo left (path ∷ rest) at_search_start paths → ((root : RootView)
     → map (path_leaf_of_end root) more_left ≡ map (path_leaf_of_end root) left ++ leaves_of_tree (path_by_specifier root path))
-    → AreEndsSo more_left rest begun paths
-ends_next left more_left begun path rest paths so added = λ root.
+    → AreEndsSo more_left rest at_search_start paths
+ends_next left more_left at_search_start path rest paths so added = λ root.
     ap (λ xs. xs ++ leaves_of_forest (paths_by_specifier root rest)) (added root)
     ∙ (append_assoc (map (path_leaf_of_end root) left) (leaves_of_tree (path_by_specifier root path)) (leaves_of_forest (paths_by_specifier root rest))
     ∙ so root)
 
-pub ends_last : (left begun : List DefinitionOrUnresolved) (rest paths : List DefinitionPathNode) → rest ≡ [] → AreEndsSo left rest begun paths
-    → (root : RootView) → map (path_leaf_of_end root) left ≡ map (path_leaf_of_end root) begun ++ leaves_of_forest (paths_by_specifier root paths)
-ends_last left begun rest paths over so root =
+pub ends_last : (left at_search_start : List DefinitionOrUnresolved) (rest paths : List DefinitionPathNode) → rest ≡ []
+    → AreEndsSo left rest at_search_start paths
+    → (root : RootView) → map (path_leaf_of_end root) left ≡ map (path_leaf_of_end root) at_search_start ++ leaves_of_forest (paths_by_specifier root paths)
+ends_last left at_search_start rest paths over so root =
     sym (append-nil (map (path_leaf_of_end root) left))
     ∙ (ap (λ xs. map (path_leaf_of_end root) left ++ leaves_of_forest (paths_by_specifier root xs)) (sym over) ∙ so root)
 
 -- ---- the ends of builders
 
-leaves_linked : (heads : List LinkHead) (f : PathForest) → leaves_of_forest (forest_below_links heads f) ≡ leaves_of_forest f
+pub leaves_linked : (heads : List LinkHead) (f : PathForest) → leaves_of_forest (forest_below_links heads f) ≡ leaves_of_forest f
 leaves_linked [] f = refl
 leaves_linked (head ∷ heads) f = leaves_linked heads (link_unless_empty head f) ∙ leaves_of_forest-link_unless_empty head f
 
@@ -80,22 +81,24 @@ leaves_fork root xs branches last =
     ∙ leaves_of_forest-join (built_paths root branches.items) (built_path root last.value))
 
 -- the invariant: the ends so far, and `rest` of the builders left
-pub record AreBuilderEndsSo (left : List DefinitionOrUnresolved) (rest : List PathBuilder) (begun : List DefinitionOrUnresolved) (builders : List
+pub record AreBuilderEndsSo (left : List DefinitionOrUnresolved) (rest : List PathBuilder) (at_search_start : List DefinitionOrUnresolved) (builders : List
     PathBuilder) : Type 0 where
   pub view : (root : RootView) → map (path_leaf_of_end root) left ++ leaves_of_forest (built_paths root rest)
-      ≡ map (path_leaf_of_end root) begun ++ leaves_of_forest (built_paths root builders)
-  pub stored : (root : RootView) → AreModulesStored root (map module_of_end begun) → AreModulesStored root (modules_of_builders builders)
+      ≡ map (path_leaf_of_end root) at_search_start ++ leaves_of_forest (built_paths root builders)
+  pub stored : (root : RootView) → AreModulesStored root (map module_of_end at_search_start) → AreModulesStored root (modules_of_builders builders)
       → AreModulesStored root (map module_of_end left) × AreModulesStored root (modules_of_builders rest)
 
-pub builder_ends_first : (begun : List DefinitionOrUnresolved) (builders : List PathBuilder) → AreBuilderEndsSo begun builders begun builders
-builder_ends_first begun builders = record { view = λ root. refl; stored = λ root a b. (a, b) }
+pub builder_ends_first : (at_search_start : List DefinitionOrUnresolved) (builders : List PathBuilder)
+    → AreBuilderEndsSo at_search_start builders at_search_start builders
+builder_ends_first at_search_start builders = record { view = λ root. refl; stored = λ root a b. (a, b) }
 
-pub builder_ends_next : (left more_left begun : List DefinitionOrUnresolved) (one_builder : PathBuilder) (rest builders : List PathBuilder)
-    → AreBuilderEndsSo left (one_builder ∷ rest) begun builders → ((root : RootView) → map (path_leaf_of_end root) more_left ≡ map (path_leaf_of_end root) left
+pub builder_ends_next : (left more_left at_search_start : List DefinitionOrUnresolved) (one_builder : PathBuilder) (rest builders : List PathBuilder)
+    → AreBuilderEndsSo left (one_builder ∷ rest) at_search_start builders → ((root : RootView) → map (path_leaf_of_end root) more_left ≡ map
+    (path_leaf_of_end root) left
     ++ leaves_of_forest (built_path root one_builder))
     → ((root : RootView) → AreModulesStored root (map module_of_end left) → AreModulesStored root (modules_of_builder one_builder)
-    → AreModulesStored root (map module_of_end more_left)) → AreBuilderEndsSo more_left rest begun builders
-builder_ends_next left more_left begun one_builder rest builders so added stored = record {
+    → AreModulesStored root (map module_of_end more_left)) → AreBuilderEndsSo more_left rest at_search_start builders
+builder_ends_next left more_left at_search_start one_builder rest builders so added stored = record {
   view = λ root.
       ap (λ xs. xs ++ leaves_of_forest (built_paths root rest)) (added root)
       ∙ (append_assoc (map (path_leaf_of_end root) left) (leaves_of_forest (built_path root one_builder)) (leaves_of_forest (built_paths root rest))
@@ -106,9 +109,10 @@ builder_ends_next left more_left begun one_builder rest builders so added stored
       (stored root h.0 split.0, split.1);
 }
 
-pub builder_ends_last : (left begun : List DefinitionOrUnresolved) (rest builders : List PathBuilder) → rest ≡ [] → AreBuilderEndsSo left rest begun builders
-    → (root : RootView) → map (path_leaf_of_end root) left ≡ map (path_leaf_of_end root) begun ++ leaves_of_forest (built_paths root builders)
-builder_ends_last left begun rest builders over so root =
+pub builder_ends_last : (left at_search_start : List DefinitionOrUnresolved) (rest builders : List PathBuilder) → rest ≡ []
+    → AreBuilderEndsSo left rest at_search_start builders
+    → (root : RootView) → map (path_leaf_of_end root) left ≡ map (path_leaf_of_end root) at_search_start ++ leaves_of_forest (built_paths root builders)
+builder_ends_last left at_search_start rest builders over so root =
     sym (append-nil (map (path_leaf_of_end root) left))
     ∙ (ap (λ xs. map (path_leaf_of_end root) left ++ leaves_of_forest (built_paths root xs)) (sym over) ∙ so.view root)
 

@@ -4,16 +4,19 @@ use Rattle.std.specs.Prelude.{Contains, slice_get}
 use Rattle.std.proofs.lemmas.List.Elements.{Contains-append_cases}
 use Rattle.symbols_paths.specs.PathTrees.{SymbolBySpecifier, DeclBySpecifier, QualifiedNameParts, DefinitionView, UnresolvedEntry, LinkHead, PathForest}
 use Rattle.symbols_paths.specs.PathTrees.{PathLeaf, definition, no_trees, joined_forests, link_unless_empty, leaves_of_forest}
-use Rattle.symbols_paths.specs.DeclTargets.{ForwardTarget, DeclTargetView, defines, forwards, alias, IsDeclTargetAt}
-use Rattle.symbols_paths.specs.PartTargets.{SearchRoutes}
-use Rattle.symbols_paths.specs.Derived.{definition_of_decl, link_head_at, alias_link_head}
-use Rattle.symbols_paths.specs.FirstReach.{IsLeafOfDecl, HasCandidate, IsLeafOfSymbol, IsLeafWithParts, IsLeafOfDeclWithoutCandidates, HasFirstCandidate, stays}
-use Rattle.symbols_paths.specs.FirstReach.{is_itself, lacks_it}
+use Rattle.symbols_paths.specs.DeclTargets.{ForwardTarget, DeclTargetView, defines, forwards, alias, IsTargetOfNthDecl}
+use Rattle.symbols_paths.specs.PartTargets.{SearchTargets}
+use Rattle.symbols_paths.specs.Derived.{definition_of_decl, link_head_of_forward, alias_link_head}
+use Rattle.symbols_paths.specs.FirstReach.{IsLeafOfDecl, HasSymbolAsCandidate, IsLeafOfSymbol, IsLeafWithParts, IsLeafOfDeclWithoutCandidates}
+use Rattle.symbols_paths.specs.FirstReach.{HasSymbolAsFirstCandidate, unresolved_leaf_stays}
+use Rattle.symbols_paths.specs.FirstReach.{definition_stays_itself, leaf_lacks_part}
 use Rattle.symbols_paths.specs.FirstReach as reach
-use Rattle.symbols_paths.specs.AliasSearches.{IsLeafByFirstCandidates, IsLeafByFirstCandidatesWithParts, IsLeafOfDeclOrItsAlias, IsReachedWithParts}
+use Rattle.symbols_paths.specs.AliasSearches.{IsLeafByFirstCandidatesOrAlias, IsLeafByFirstCandidatesWithParts, IsLeafOfDeclOrItsAlias, IsReachedWithParts}
 use Rattle.symbols_paths.specs.AliasSearches as near
-use Rattle.symbols_paths.specs.Choice.{is_visited, FindsPaths, already_visited, is_new, ExpandsDecls, at_end, step, FollowsDecl, by_itself}
-use Rattle.symbols_paths.specs.Choice.{by_forward, by_running, by_alias, TriesCandidates, no_more, first_with, passes, forest_of_unresolved}
+use Rattle.symbols_paths.specs.Choice.{is_visited, IsOutcomeOfSymbolSearch, already_visited, is_new, IsOutcomeOfDeclListSearch, no_decl_left, step}
+use Rattle.symbols_paths.specs.Choice.{IsOutcomeOfDeclSearch, decl_is_definition}
+use Rattle.symbols_paths.specs.Choice.{decl_forwards, by_alias_being_resolved, via_alias, IsOutcomeOfCandidateSearch, no_candidate_left}
+use Rattle.symbols_paths.specs.Choice.{first_candidate_with_paths, candidate_has_no_path, forest_of_unresolved}
 use Rattle.symbols_paths.proofs.VisitedSymbols.{only_one}
 use Rattle.symbols_paths.proofs.Leaves.{leaves_of_forest-join, leaves_of_forest-link_unless_empty, IsTail, later, here, whole, walks_leaf, none_in, not_missing}
 use Rattle.symbols_paths.proofs.Leaves.{only_this}
@@ -28,40 +31,42 @@ first_of : (cs : List SymbolBySpecifier) (t : SymbolBySpecifier) → slice_get c
 first_of [] t e = absurd cc
 first_of (c ∷ cs) t e = let same : c ≡ t = cc in (0, omega arith, same)
 
-pub first_candidate : (decl_target : DeclTargetView) (t : SymbolBySpecifier) → HasFirstCandidate decl_target t → HasCandidate decl_target t
+pub first_candidate : (decl_target : DeclTargetView) (t : SymbolBySpecifier) → HasSymbolAsFirstCandidate decl_target t → HasSymbolAsCandidate decl_target t
 first_candidate (defines range star) t h = h
 first_candidate (forwards forward) t h = first_of forward.candidates t h
 first_candidate (alias u ps) t h = h
 
 -- a leaf by first candidates is a leaf
 mutual
-  pub first_leaf_is : (routes : SearchRoutes) {s : SymbolBySpecifier} {x : PathLeaf} → IsLeafByFirstCandidates routes s x → IsLeafOfSymbol routes s x
-  first_leaf_is routes (near.given {s = s} {x = x} i decl_target st g) = reach.given i decl_target st (first_gives s i decl_target x g)
-  first_leaf_is routes (near.led i decl_target t st l h) = reach.led i decl_target t st (first_candidate decl_target t l) (first_leaf_is routes h)
-  first_leaf_is routes (near.by_alias i t ps st h) = reach.by_alias i t ps st (first_walk_is routes h)
+  pub first_leaf_is : (routes : SearchTargets) {s : SymbolBySpecifier} {x : PathLeaf} → IsLeafByFirstCandidatesOrAlias routes s x → IsLeafOfSymbol routes s x
+  first_leaf_is routes (near.leaf_of_decl_itself {s = s} {x = x} i decl_target st g) = reach.leaf_of_decl_itself i decl_target st
+      (first_gives s i decl_target x g)
+  first_leaf_is routes (near.via_candidate i decl_target t st l h) = reach.via_candidate i decl_target t st (first_candidate decl_target t l)
+      (first_leaf_is routes h)
+  first_leaf_is routes (near.via_alias i t ps st h) = reach.via_alias i t ps st (first_walk_is routes h)
 
-  pub first_walk_is : (routes : SearchRoutes) {s : SymbolBySpecifier} {r : QualifiedNameParts} {x : PathLeaf} → IsLeafByFirstCandidatesWithParts routes s r x
+  pub first_walk_is : (routes : SearchTargets) {s : SymbolBySpecifier} {r : QualifiedNameParts} {x : PathLeaf} → IsLeafByFirstCandidatesWithParts routes s r x
       → IsLeafWithParts routes s r x
   first_walk_is routes (near.no_parts h) = reach.no_parts (first_leaf_is routes h)
-  first_walk_is routes (near.changes x h (stays {m = m})) = reach.stays m (first_leaf_is routes h)
-  first_walk_is routes (near.changes x h (is_itself {y = y} e)) = reach.is_itself y (first_leaf_is routes h) e
-  first_walk_is routes (near.changes x h (lacks_it {y = y} {m = m} e)) = reach.lacking y m (first_leaf_is routes h) e
-  first_walk_is routes (near.goes x t h e n) = reach.goes x t (first_leaf_is routes h) e (first_walk_is routes n)
+  first_walk_is routes (near.changes x h (unresolved_leaf_stays {m = m})) = reach.unresolved_leaf_stays m (first_leaf_is routes h)
+  first_walk_is routes (near.changes x h (definition_stays_itself {y = y} e)) = reach.definition_stays_itself y (first_leaf_is routes h) e
+  first_walk_is routes (near.changes x h (leaf_lacks_part {y = y} {m = m} e)) = reach.definition_lacks_part y m (first_leaf_is routes h) e
+  first_walk_is routes (near.via_next_symbol x t h e n) = reach.via_next_symbol x t (first_leaf_is routes h) e (first_walk_is routes n)
 
 -- a leaf of a declaration itself as `IsLeafOfDeclOrItsAlias`, but by first candidates
-abbrev pub MayGiveFirst : SearchRoutes → SymbolBySpecifier → ℕ → DeclTargetView → PathLeaf → Type 0
+abbrev pub MayGiveFirst : SearchTargets → SymbolBySpecifier → ℕ → DeclTargetView → PathLeaf → Type 0
 MayGiveFirst routes s i (alias t ps) x = IsLeafByFirstCandidatesWithParts routes t ps x
 MayGiveFirst routes s i (defines range star) x = IsLeafOfDeclWithoutCandidates s i (defines range star) x
 MayGiveFirst routes s i (forwards forward) x = IsLeafOfDeclWithoutCandidates s i (forwards forward) x
 
-pub given_named : (routes : SearchRoutes) (s : SymbolBySpecifier) (i : ℕ) (decl_target : DeclTargetView) (x : PathLeaf)
+pub given_named : (routes : SearchTargets) (s : SymbolBySpecifier) (i : ℕ) (decl_target : DeclTargetView) (x : PathLeaf)
     → IsLeafOfDeclWithoutCandidates s i decl_target x
     → MayGiveFirst routes s i decl_target x
 given_named routes s i (defines range star) x h = h
 given_named routes s i (forwards forward) x h = h
 given_named routes s i (alias t ps) x h = absurd h
 
-pub first_may_give : (routes : SearchRoutes) (s : SymbolBySpecifier) (i : ℕ) (decl_target : DeclTargetView) (x : PathLeaf)
+pub first_may_give : (routes : SearchTargets) (s : SymbolBySpecifier) (i : ℕ) (decl_target : DeclTargetView) (x : PathLeaf)
     → MayGiveFirst routes s i decl_target x
     → IsLeafOfDeclOrItsAlias routes s i decl_target x
 first_may_give routes s i (defines range star) x h = h
@@ -72,14 +77,14 @@ none_missing : (otherwise : Option UnresolvedEntry) (y : DefinitionView) → Con
 none_missing None y h = none_in (definition y) h
 none_missing (Some m) y h = not_missing m y h
 
-module _ (routes : SearchRoutes) (limit : ℕ) (start : SymbolBySpecifier) (parts : QualifiedNameParts) where
+module _ (routes : SearchTargets) (limit : ℕ) (start : SymbolBySpecifier) (parts : QualifiedNameParts) where
   -- a declaration of a symbol that is reached with these parts has the definition
   pub record IsNamed (r : QualifiedNameParts) (y : DefinitionView) : Type 0 where
     pub s : SymbolBySpecifier
     pub i : ℕ
     pub decl_target : DeclTargetView
     pub reached : IsReachedWithParts routes start parts s r
-    pub occurs : IsDeclTargetAt routes.decl_targets s i decl_target
+    pub occurs : IsTargetOfNthDecl routes.decl_targets s i decl_target
     pub may_give : IsLeafOfDeclOrItsAlias routes s i decl_target (definition y)
 
   -- the symbols visited by this step are reached with these parts, and each definition is a leaf of a declaration of one
@@ -110,7 +115,7 @@ module _ (routes : SearchRoutes) (limit : ℕ) (start : SymbolBySpecifier) (part
   mutual
     pub finds_reached : {running : List DeclBySpecifier} {visited after : List SymbolBySpecifier} {s : SymbolBySpecifier} {f : PathForest}
         (r : QualifiedNameParts)
-        → IsReachedWithParts routes start parts s r → FindsPaths routes limit running visited s f after → AreReached r visited f after
+        → IsReachedWithParts routes start parts s r → IsOutcomeOfSymbolSearch routes limit running visited s f after → AreReached r visited f after
     finds_reached r w (already_visited {visited = visited} e) = reached_still r visited
     finds_reached r w (is_new {visited = visited} {after = after} {s = s} e x) =
         let h = expands_reached r w (whole routes s) x in
@@ -124,16 +129,17 @@ module _ (routes : SearchRoutes) (limit : ℕ) (start : SymbolBySpecifier) (part
 
     expands_reached : {running : List DeclBySpecifier} {visited after : List SymbolBySpecifier} {s : SymbolBySpecifier} {i : ℕ} {xs : List DeclTargetView}
         {f : PathForest}
-        (r : QualifiedNameParts) → IsReachedWithParts routes start parts s r → IsTail routes s i xs → ExpandsDecls routes limit running visited s i xs f after
+        (r : QualifiedNameParts) → IsReachedWithParts routes start parts s r → IsTail routes s i xs
+        → IsOutcomeOfDeclListSearch routes limit running visited s i xs f after
         → AreReached r visited f after
-    expands_reached r w st (at_end {visited = visited}) = reached_still r visited
+    expands_reached r w st (no_decl_left {visited = visited}) = reached_still r visited
     expands_reached r w st (step {f = f} {rest = g} x y) = reached_both f g (follows_reached r w (here st) x) (expands_reached r w (later st) y)
 
     follows_reached : {running : List DeclBySpecifier} {visited after : List SymbolBySpecifier} {s : SymbolBySpecifier} {i : ℕ} {decl_target : DeclTargetView}
         {f : PathForest}
-        (r : QualifiedNameParts) → IsReachedWithParts routes start parts s r → IsDeclTargetAt routes.decl_targets s i decl_target
-        → FollowsDecl routes limit running visited s i decl_target f after → AreReached r visited f after
-    follows_reached r w st (by_itself {visited = visited} {s = s} {i = i} {range = range} {star = star}) =
+        (r : QualifiedNameParts) → IsReachedWithParts routes start parts s r → IsTargetOfNthDecl routes.decl_targets s i decl_target
+        → IsOutcomeOfDeclSearch routes limit running visited s i decl_target f after → AreReached r visited f after
+    follows_reached r w st (decl_is_definition {visited = visited} {s = s} {i = i} {range = range} {star = star}) =
         record {
           leaves = λ y h. record {
             s = s;
@@ -145,10 +151,10 @@ module _ (routes : SearchRoutes) (limit : ℕ) (start : SymbolBySpecifier) (part
           };
           visited_now = λ u a b. absurd (true≢false (sym b ∙ a));
         }
-    follows_reached r w st (by_forward {s = s} {i = i} {forward = forward} {f = f} x) =
-        reached_link (link_head_at s i forward) f (tries_reached r i forward w st (λ c h. h) x)
-    follows_reached r w st (by_running {visited = visited} e) = reached_still r visited
-    follows_reached r w st (by_alias {visited = visited} {s = s} {t = t} {i = i} {ps = ps} {f = f} e few fits x) =
+    follows_reached r w st (decl_forwards {s = s} {i = i} {forward = forward} {f = f} x) =
+        reached_link (link_head_of_forward s i forward) f (tries_reached r i forward w st (λ c h. h) x)
+    follows_reached r w st (by_alias_being_resolved {visited = visited} e) = reached_still r visited
+    follows_reached r w st (via_alias {visited = visited} {s = s} {t = t} {i = i} {ps = ps} {f = f} e few fits x) =
         record {
           leaves = λ y h. record {
             s = s;
@@ -165,11 +171,14 @@ module _ (routes : SearchRoutes) (limit : ℕ) (start : SymbolBySpecifier) (part
     tries_reached : {running : List DeclBySpecifier} {visited after : List SymbolBySpecifier} {s : SymbolBySpecifier} {cs : List SymbolBySpecifier}
         {otherwise : Option UnresolvedEntry}
         {f : PathForest} (r : QualifiedNameParts) (i : ℕ) (forward : ForwardTarget) → IsReachedWithParts routes start parts s r
-        → IsDeclTargetAt routes.decl_targets s i (forwards forward)
-        → ((c : SymbolBySpecifier) → Contains cs c → Contains forward.candidates c) → TriesCandidates routes limit running visited cs otherwise f after
+        → IsTargetOfNthDecl routes.decl_targets s i (forwards forward)
+        → ((c : SymbolBySpecifier) → Contains cs c → Contains forward.candidates c)
+        → IsOutcomeOfCandidateSearch routes limit running visited cs otherwise f after
         → AreReached r visited f after
-    tries_reached r i forward w st of (no_more {visited = visited} {otherwise = otherwise}) =
+    tries_reached r i forward w st of (no_candidate_left {visited = visited} {otherwise = otherwise}) =
         record { leaves = λ y h. absurd (none_missing otherwise y h); visited_now = λ u a b. absurd (true≢false (sym b ∙ a)) }
-    tries_reached {s = s} r i forward w st of (first_with {c = c} x) = finds_reached r (near.led s i (forwards forward) w st (of c (0, omega arith, refl))) x
-    tries_reached {s = s} r i forward w st of (passes {c = c} {f = f} x y) = reached_both no_trees f (finds_reached r (near.led s i (forwards forward) w st
+    tries_reached {s = s} r i forward w st of (first_candidate_with_paths {c = c} x) = finds_reached r (near.via_candidate s i (forwards forward) w st
+        (of c (0, omega arith, refl))) x
+    tries_reached {s = s} r i forward w st of (candidate_has_no_path {c = c} {f = f} x y) = reached_both no_trees f
+        (finds_reached r (near.via_candidate s i (forwards forward) w st
         (of c (0, omega arith, refl))) x) (tries_reached r i forward w st (λ d q. of d (suc q.0, omega (arith, q.1), q.2)) y)

@@ -6,7 +6,7 @@ use Rattle.std.proofs.lemmas.List.{map-append}
 use Rattle.symbols_ast.specs.declared.ids.UniqueSymbolId.{UniqueSymbolId}
 use Rattle.symbols_root.specs.Roots.{RootView}
 use Rattle.symbols_root.specs.Growing.{HasGrown}
-use Rattle.symbols_root.specs.laws.Growing.{still_stored}
+use Rattle.symbols_root.specs.laws.Growing.{stored_id_remains_stored}
 use Rattle.symbols_paths.specs.declared.alias_decl.AliasDecl.{AliasDecl}
 use Rattle.symbols_paths.specs.Choice.{is_visited, is_alias_being_resolved}
 use Rattle.symbols_paths.specs.inner.Views.{symbol_of_unique_id}
@@ -71,4 +71,4 @@ aliases_with root (m ∷ running) d numbered within (suc k) e h =
     aliases_with root running d (λ j q g. numbered (suc j) q (omega (arith, g))) within k e (omega (arith, h))
 
 pub still_aliases : {root more : RootView} → HasGrown root more → (running : List AliasDecl) → AreAliasesStored root running → AreAliasesStored more running
-still_aliases grown running numbered = λ k e within. still_stored grown (get_or running k e).«module».0 (numbered k e within)
+still_aliases grown running numbered = λ k e within. stored_id_remains_stored grown (get_or running k e).«module».0 (numbered k e within)

@@ -10,10 +10,10 @@ use Rattle.symbols_paths.specs.Views.{strings_view}
 use Rattle.symbols_paths.specs.inner.Views.{later_parts}
 use Rattle.symbols_paths.specs.inner.PathBuilders.{remaining_parts}
 
-no_more : {A : Type 0} (n : ℕ) (xs : List A) → length (drop n xs) ≤ length xs
-no_more zero xs = omega arith
-no_more (suc n) [] = omega arith
-no_more (suc n) (x ∷ xs) = omega (arith, no_more n xs)
+no_candidate_left : {A : Type 0} (n : ℕ) (xs : List A) → length (drop n xs) ≤ length xs
+no_candidate_left zero xs = omega arith
+no_candidate_left (suc n) [] = omega arith
+no_candidate_left (suc n) (x ∷ xs) = omega (arith, no_candidate_left n xs)
 
 drop_texts : (n : ℕ) (xs : List (String Global)) → strings_view (drop n xs) ≡ drop n (strings_view xs)
 drop_texts zero xs = refl
@@ -37,4 +37,4 @@ drop_one_more n ps = rw (add-one) (drop_next n ps)
 
 pub short_parts : (parts : SharedParts) → length (remaining_parts parts) < 2 ^ 64
 short_parts parts =
-    omega (arith, parts.few, no_more parts.first (strings_view (rc_slice_items parts.list)), length-map (rc_slice_items parts.list) string_bytes)
+    omega (arith, parts.few, no_candidate_left parts.first (strings_view (rc_slice_items parts.list)), length-map (rc_slice_items parts.list) string_bytes)

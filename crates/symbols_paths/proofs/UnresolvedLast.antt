@@ -14,14 +14,16 @@ use Rattle.symbols_root.specs.declared.rules.Rules.{Rules}
 use Rattle.symbols_exports.specs.StarStatements.{resolve_specifier}
 use Rattle.symbols_paths.specs.PathTrees.{SymbolBySpecifier, DeclBySpecifier, DefinitionView, UnresolvedEntry, no_symbol, no_module, no_part, LinkHead}
 use Rattle.symbols_paths.specs.PathTrees.{PathForest, definition, unresolved, no_trees, more_trees, joined_forests, link_unless_empty, leaves_of_forest}
-use Rattle.symbols_paths.specs.DeclTargets.{ForwardTarget, DeclTargetView, DeclTargets, defines, forwards, alias, IsDeclTargetAt}
-use Rattle.symbols_paths.specs.DeclTargets.{symbol_of_id, explicit_export, re_exported_symbols_by_rules, forward_to_unresolved, same_module_forward}
-use Rattle.symbols_paths.specs.DeclTargets.{alias_target, import_forward, forward_into_module, declarations_of, target_of_decl}
-use Rattle.symbols_paths.specs.PartTargets.{SearchRoutes, routes_of}
-use Rattle.symbols_paths.specs.Derived.{decl_at, definition_of_decl, link_head_at, alias_link_head}
-use Rattle.symbols_paths.specs.FirstReach.{is_alias_target, is_alias_decl_at, leaves_outside_aliases, IsUnresolvedPartLast}
-use Rattle.symbols_paths.specs.Choice.{is_visited, FindsPaths, already_visited, is_new, ExpandsDecls, at_end, step, FollowsDecl, by_itself}
-use Rattle.symbols_paths.specs.Choice.{by_forward, by_running, by_alias, TriesCandidates, no_more, first_with, passes, forest_of_unresolved}
+use Rattle.symbols_paths.specs.DeclTargets.{ForwardTarget, DeclTargetView, DeclTargets, defines, forwards, alias, IsTargetOfNthDecl}
+use Rattle.symbols_paths.specs.DeclTargets.{symbol_of_id, explicit_export, re_exported_symbols_by_rules, forward_to_unresolved, forward_within_module}
+use Rattle.symbols_paths.specs.DeclTargets.{alias_target, forward_of_import, forward_into_module, declarations_of, target_of_decl}
+use Rattle.symbols_paths.specs.PartTargets.{SearchTargets, search_targets_of}
+use Rattle.symbols_paths.specs.Derived.{decl_of_symbol_at_index, definition_of_decl, link_head_of_forward, alias_link_head}
+use Rattle.symbols_paths.specs.FirstReach.{is_alias_target, is_alias_decl_at, leaves_outside_aliases, IsPartUnresolvedOnlyAfterCandidates}
+use Rattle.symbols_paths.specs.Choice.{is_visited, IsOutcomeOfSymbolSearch, already_visited, is_new, IsOutcomeOfDeclListSearch, no_decl_left, step}
+use Rattle.symbols_paths.specs.Choice.{IsOutcomeOfDeclSearch, decl_is_definition}
+use Rattle.symbols_paths.specs.Choice.{decl_forwards, by_alias_being_resolved, via_alias, IsOutcomeOfCandidateSearch, no_candidate_left}
+use Rattle.symbols_paths.specs.Choice.{first_candidate_with_paths, candidate_has_no_path, forest_of_unresolved}
 use Rattle.symbols_paths.proofs.Leaves.{IsTail, later, here, whole, none_in, decl_targets_same}
 use Rattle.symbols_paths.proofs.FirstReachCovered.{finds_covers, expands_covers, tries_covers, visited_given}
 
@@ -42,24 +44,24 @@ outer-alias : (table : DeclTargets) (head : LinkHead) (f : PathForest) → is_al
 outer-alias table head no_trees e = refl
 outer-alias table head (more_trees t f) e = rw e refl
 
-alias_there : (table : DeclTargets) (s : SymbolBySpecifier) (i : ℕ) (decl_target : DeclTargetView) → IsDeclTargetAt table s i decl_target
-    → is_alias_decl_at table (decl_at s i) ≡ is_alias_target decl_target
+alias_there : (table : DeclTargets) (s : SymbolBySpecifier) (i : ℕ) (decl_target : DeclTargetView) → IsTargetOfNthDecl table s i decl_target
+    → is_alias_decl_at table (decl_of_symbol_at_index s i) ≡ is_alias_target decl_target
 alias_there table s i decl_target st = ap (λ o. option_map_or is_alias_target o false) st
 
 -- a declaration has the unresolved entry, and all its candidates are visited
-record IsNamedBy (routes : SearchRoutes) (m : UnresolvedEntry) (after : List SymbolBySpecifier) : Type 0 where
+record IsNamedBy (routes : SearchTargets) (m : UnresolvedEntry) (after : List SymbolBySpecifier) : Type 0 where
   symbol : SymbolBySpecifier
   index : ℕ
   forward : ForwardTarget
-  occurs : IsDeclTargetAt routes.decl_targets symbol index (forwards forward)
+  occurs : IsTargetOfNthDecl routes.decl_targets symbol index (forwards forward)
   otherwise : forward.otherwise ≡ Some m
   visited : (c : SymbolBySpecifier) → Contains forward.candidates c → is_visited after c ≡ true
 
-record AreNamed (routes : SearchRoutes) (f : PathForest) (after : List SymbolBySpecifier) : Type 0 where
+record AreNamed (routes : SearchTargets) (f : PathForest) (after : List SymbolBySpecifier) : Type 0 where
   all : (m : UnresolvedEntry) → Contains (leaves_outside_aliases routes.decl_targets f) (unresolved m) → IsNamedBy routes m after
 
 -- the same, or it is the entry of the declaration whose candidates are being tried, and these are visited
-record AreTried (routes : SearchRoutes) (cs : List SymbolBySpecifier) (otherwise : Option UnresolvedEntry) (f : PathForest)
+record AreTried (routes : SearchTargets) (cs : List SymbolBySpecifier) (otherwise : Option UnresolvedEntry) (f : PathForest)
     (after : List SymbolBySpecifier) : Type 0 where
   all : (m : UnresolvedEntry) → Contains (leaves_outside_aliases routes.decl_targets f) (unresolved m)
       → ((otherwise ≡ Some m) × ((c : SymbolBySpecifier) → Contains cs c → is_visited after c ≡ true)) ⊎ IsNamedBy routes m after
@@ -72,10 +74,10 @@ only_missing : (x m : UnresolvedEntry) → Contains (unresolved x ∷ []) (unres
 only_missing x m (zero, lt, e) = let a : x ≡ m = cc in a
 only_missing x m (suc n, lt, e) = absurd (omega (arith, lt))
 
-nothing : (routes : SearchRoutes) (after : List SymbolBySpecifier) → AreNamed routes no_trees after
+nothing : (routes : SearchTargets) (after : List SymbolBySpecifier) → AreNamed routes no_trees after
 nothing routes after = record { all = λ m h. absurd (none_in (unresolved m) h) }
 
-retained_named : {routes : SearchRoutes} {m : UnresolvedEntry} {mid after : List SymbolBySpecifier} → IsNamedBy routes m mid
+retained_named : {routes : SearchTargets} {m : UnresolvedEntry} {mid after : List SymbolBySpecifier} → IsNamedBy routes m mid
     → ((u : SymbolBySpecifier) → is_visited mid u ≡ true → is_visited after u ≡ true) → IsNamedBy routes m after
 retained_named is retained = record {
   symbol = is.symbol;
@@ -86,7 +88,7 @@ retained_named is retained = record {
   visited = λ c h. retained c (is.visited c h);
 }
 
-both : {routes : SearchRoutes} {mid after : List SymbolBySpecifier} (f g : PathForest) → AreNamed routes f mid → AreNamed routes g after
+both : {routes : SearchTargets} {mid after : List SymbolBySpecifier} (f g : PathForest) → AreNamed routes f mid → AreNamed routes g after
     → ((u : SymbolBySpecifier) → is_visited mid u ≡ true → is_visited after u ≡ true) → AreNamed routes (joined_forests f g) after
 both {routes = routes} f g x y retained = record {
   all = λ m h. elim (Contains-append_cases (leaves_outside_aliases routes.decl_targets f) (leaves_outside_aliases routes.decl_targets g) (unresolved m)
@@ -96,61 +98,63 @@ both {routes = routes} f g x y retained = record {
       ];
 }
 
-left_over : (routes : SearchRoutes) (visited : List SymbolBySpecifier) (otherwise : Option UnresolvedEntry)
+left_over : (routes : SearchTargets) (visited : List SymbolBySpecifier) (otherwise : Option UnresolvedEntry)
     → AreTried routes [] otherwise (forest_of_unresolved otherwise) visited
 left_over routes visited None = record { all = λ m h. absurd (none_in (unresolved m) h) }
 left_over routes visited (Some x) = record { all = λ m h. inl (ap Some (only_missing x m h), λ c q. absurd (omega (arith, q.1))) }
 
 -- the candidates tried are those of the declaration
-settled : {routes : SearchRoutes} {f : PathForest} {after : List SymbolBySpecifier} (s : SymbolBySpecifier) (i : ℕ) (forward : ForwardTarget)
-    → IsDeclTargetAt routes.decl_targets s i (forwards forward) → AreTried routes forward.candidates forward.otherwise f after
-    → AreNamed routes (link_unless_empty (link_head_at s i forward) f) after
+settled : {routes : SearchTargets} {f : PathForest} {after : List SymbolBySpecifier} (s : SymbolBySpecifier) (i : ℕ) (forward : ForwardTarget)
+    → IsTargetOfNthDecl routes.decl_targets s i (forwards forward) → AreTried routes forward.candidates forward.otherwise f after
+    → AreNamed routes (link_unless_empty (link_head_of_forward s i forward) f) after
 settled {routes = routes} {f = f} s i forward st x = record {
   all = λ m h. elim
-      (x.all m (rw (outer-link_unless_empty routes.decl_targets (link_head_at s i forward) f (alias_there routes.decl_targets s i (forwards forward) st)) at h)) [
+      (x.all m (rw (outer-link_unless_empty routes.decl_targets (link_head_of_forward s i forward) f
+      (alias_there routes.decl_targets s i (forwards forward) st)) at h)) [
         | inl p ↦ record { symbol = s; index = i; forward = forward; occurs = st; otherwise = p.0; visited = p.1 }
         | inr p ↦ p
       ];
 }
 
 -- after an alias there is nothing to prove
-aliased : {routes : SearchRoutes} {after : List SymbolBySpecifier} (s t : SymbolBySpecifier) (i : ℕ) (ps : List (List ℕ)) (f : PathForest)
-    → IsDeclTargetAt routes.decl_targets s i (alias t ps) → AreNamed routes (link_unless_empty (alias_link_head s i ps) f) after
+aliased : {routes : SearchTargets} {after : List SymbolBySpecifier} (s t : SymbolBySpecifier) (i : ℕ) (ps : List (List ℕ)) (f : PathForest)
+    → IsTargetOfNthDecl routes.decl_targets s i (alias t ps) → AreNamed routes (link_unless_empty (alias_link_head s i ps) f) after
 aliased {routes = routes} s t i ps f st = record {
   all = λ m h.
       absurd (none_in (unresolved m)
       (rw (outer-alias routes.decl_targets (alias_link_head s i ps) f (alias_there routes.decl_targets s i (alias t ps) st)) at h));
 }
 
-module _ (routes : SearchRoutes) (limit : ℕ) where
+module _ (routes : SearchTargets) (limit : ℕ) where
   mutual
     finds_named : {running : List DeclBySpecifier} {visited after : List SymbolBySpecifier} {s : SymbolBySpecifier} {f : PathForest}
-        → FindsPaths routes limit running visited s f after → AreNamed routes f after
+        → IsOutcomeOfSymbolSearch routes limit running visited s f after → AreNamed routes f after
     finds_named (already_visited {visited = visited} e) = nothing routes visited
     finds_named (is_new {s = s} e x) = expands_named (whole routes s) x
 
     expands_named : {running : List DeclBySpecifier} {visited after : List SymbolBySpecifier} {s : SymbolBySpecifier} {i : ℕ} {xs : List DeclTargetView}
         {f : PathForest}
-        → IsTail routes s i xs → ExpandsDecls routes limit running visited s i xs f after → AreNamed routes f after
-    expands_named st (at_end {visited = visited}) = nothing routes visited
+        → IsTail routes s i xs → IsOutcomeOfDeclListSearch routes limit running visited s i xs f after → AreNamed routes f after
+    expands_named st (no_decl_left {visited = visited}) = nothing routes visited
     expands_named st (step {f = f} {rest = g} x y) =
         both f g (follows_named (here st) x) (expands_named (later st) y) (expands_covers routes limit y).0.retained
 
     follows_named : {running : List DeclBySpecifier} {visited after : List SymbolBySpecifier} {s : SymbolBySpecifier} {i : ℕ} {decl_target : DeclTargetView}
         {f : PathForest}
-        → IsDeclTargetAt routes.decl_targets s i decl_target → FollowsDecl routes limit running visited s i decl_target f after → AreNamed routes f after
-    follows_named st (by_itself {s = s} {i = i} {range = range} {star = star}) =
+        → IsTargetOfNthDecl routes.decl_targets s i decl_target → IsOutcomeOfDeclSearch routes limit running visited s i decl_target f after
+        → AreNamed routes f after
+    follows_named st (decl_is_definition {s = s} {i = i} {range = range} {star = star}) =
         record { all = λ m h. absurd (no_definition (definition_of_decl s i range star) m h) }
-    follows_named st (by_forward {s = s} {i = i} {forward = forward} x) = settled s i forward st (tries_named x)
-    follows_named st (by_running {visited = visited} e) = nothing routes visited
-    follows_named st (by_alias {s = s} {t = t} {i = i} {ps = ps} {f = f} e few fits x) = aliased s t i ps f st
+    follows_named st (decl_forwards {s = s} {i = i} {forward = forward} x) = settled s i forward st (tries_named x)
+    follows_named st (by_alias_being_resolved {visited = visited} e) = nothing routes visited
+    follows_named st (via_alias {s = s} {t = t} {i = i} {ps = ps} {f = f} e few fits x) = aliased s t i ps f st
 
     tries_named : {running : List DeclBySpecifier} {visited after : List SymbolBySpecifier} {cs : List SymbolBySpecifier} {otherwise : Option UnresolvedEntry}
         {f : PathForest}
-        → TriesCandidates routes limit running visited cs otherwise f after → AreTried routes cs otherwise f after
-    tries_named (no_more {visited = visited} {otherwise = otherwise}) = left_over routes visited otherwise
-    tries_named (first_with x) = record { all = λ m h. inr ((finds_named x).all m h) }
-    tries_named (passes {after = after} {c = c} {cs = cs} x y) = record {
+        → IsOutcomeOfCandidateSearch routes limit running visited cs otherwise f after → AreTried routes cs otherwise f after
+    tries_named (no_candidate_left {visited = visited} {otherwise = otherwise}) = left_over routes visited otherwise
+    tries_named (first_candidate_with_paths x) = record { all = λ m h. inr ((finds_named x).all m h) }
+    tries_named (candidate_has_no_path {after = after} {c = c} {cs = cs} x y) = record {
       all = λ m h. elim ((tries_named y).all m h) [
         | inl p ↦ inl (p.0, tried p.1 ((tries_covers routes limit y).0.retained c (finds_covers routes limit x).1))
         | inr p ↦ inr p
@@ -198,9 +202,9 @@ no_text specifier_text name e = cc
 same_name : (a b : List ℕ) → no_part a ≡ no_part b → a ≡ b
 same_name a b e = cc
 
-target_part : (rules : Rules) (graph : GraphView) (s : SymbolBySpecifier) (t : Option SymbolId) → IsOfPart rules graph (forwards (same_module_forward s t))
-target_part rules graph s None = led_part rules graph (same_module_forward s None) (λ specifier name parts o. absurd cc)
-target_part rules graph s (Some t) = led_part rules graph (same_module_forward s (Some t)) (λ specifier name parts o. absurd cc)
+target_part : (rules : Rules) (graph : GraphView) (s : SymbolBySpecifier) (t : Option SymbolId) → IsOfPart rules graph (forwards (forward_within_module s t))
+target_part rules graph s None = led_part rules graph (forward_within_module s None) (λ specifier name parts o. absurd cc)
+target_part rules graph s (Some t) = led_part rules graph (forward_within_module s (Some t)) (λ specifier name parts o. absurd cc)
 
 aliased_part : (rules : Rules) (graph : GraphView) (t : SymbolBySpecifier) (ps : List (List ℕ)) → IsOfPart rules graph (alias t ps)
 aliased_part rules graph t ps forward specifier name parts e o = absurd cc
@@ -222,8 +226,8 @@ into_part rules graph s n k None = led_part rules graph (forward_into_module rul
     λ i. re_exported_symbols_by_rules rules graph (at i) (called i))
 
 import_part : (rules : Rules) (graph : GraphView) (s : SymbolBySpecifier) (n specifier_text : List ℕ) (k : Option (List ℕ))
-    → IsOfPart rules graph (forwards (import_forward rules graph s n specifier_text k))
-import_part rules graph s n specifier_text None = led_part rules graph (import_forward rules graph s n specifier_text None) (λ specifier name parts o.
+    → IsOfPart rules graph (forwards (forward_of_import rules graph s n specifier_text k))
+import_part rules graph s n specifier_text None = led_part rules graph (forward_of_import rules graph s n specifier_text None) (λ specifier name parts o.
     absurd (no_text specifier_text name (same_reason (record { specifier = s.specifier; reason = no_module specifier_text; parts = [] })
     (entry specifier name parts) o)))
 import_part rules graph s n specifier_text (Some k) = into_part rules graph s n k (explicit_export graph k n)
@@ -247,9 +251,10 @@ at_index rules graph s (decl ∷ decls) (suc i) decl_target e = at_index rules g
 
 pub part_last : (rules : Rules) (graph : GraphView) (limit : ℕ) {running : List DeclBySpecifier} {after : List SymbolBySpecifier} {start : SymbolBySpecifier}
     {f : PathForest}
-    → FindsPaths (routes_of rules graph) limit running [] start f after → IsUnresolvedPartLast rules graph f (leaves_of_forest f)
+    → IsOutcomeOfSymbolSearch (search_targets_of rules graph) limit running [] start f after → IsPartUnresolvedOnlyAfterCandidates rules graph f
+    (leaves_of_forest f)
 part_last rules graph limit {after = after} x specifier name parts h c has y near =
-    let view = (finds_named (routes_of rules graph) limit x).all (record { specifier = specifier; reason = no_part name; parts = parts }) h in
+    let view = (finds_named (search_targets_of rules graph) limit x).all (record { specifier = specifier; reason = no_part name; parts = parts }) h in
     let same = at_index rules graph view.symbol (declarations_of graph view.symbol) view.index (forwards view.forward) view.occurs view.forward specifier name
     parts refl view.otherwise in
     visited_given x c (view.visited c (subst (λ cs. Contains cs c) (sym same) has)) y near

@@ -12,51 +12,58 @@ use Rattle.symbols_root.specs.Calls.{IsStored}
 use Rattle.symbols_root.specs.GraphModules.{symbol_in_module}
 use Rattle.symbols_paths.specs.declared.definition_path.DefinitionPathNode.{DefinitionPathNode}
 use Rattle.symbols_paths.specs.PathTrees.{SymbolBySpecifier, QualifiedNameParts, PathLeaf, PathForest, leaves_of_forest, HasDistinctDefinitions}
-use Rattle.symbols_paths.specs.PartTargets.{routes_of}
-use Rattle.symbols_paths.specs.Derived.{IsDerivedForest, IsDerivedWithParts}
-use Rattle.symbols_paths.specs.FirstReach.{IsLeafOfSymbol, IsLeafWithParts, IsFirstCandidateLeaf, ReplacesLeafWithParts, IsUnresolvedPartLast}
-use Rattle.symbols_paths.specs.AliasSearches.{IsLeafByFirstCandidates, IsLeafByFirstCandidatesWithParts, HasNoAliasCycle, HasUniqueRemainingParts}
-use Rattle.symbols_paths.specs.AliasSearches.{HasUniquePartsOutsideAliases, ReachesNoAlias}
+use Rattle.symbols_paths.specs.PartTargets.{search_targets_of}
+use Rattle.symbols_paths.specs.Derived.{IsForestByAnyCandidates, IsForestWithPartsByAnyCandidates}
+use Rattle.symbols_paths.specs.FirstReach.{IsLeafOfSymbol, IsLeafWithParts, IsLeafByFirstCandidatesNoAlias, IsLeafWithAnyPartsResolved}
+use Rattle.symbols_paths.specs.FirstReach.{IsPartUnresolvedOnlyAfterCandidates}
+use Rattle.symbols_paths.specs.AliasSearches.{IsLeafByFirstCandidatesOrAlias, IsLeafByFirstCandidatesWithParts, HasNoAliasCycle}
+use Rattle.symbols_paths.specs.AliasSearches.{HasUniqueRemainingPartsInEachSearch}
+use Rattle.symbols_paths.specs.AliasSearches.{HasUniqueRemainingPartsInMainSearch, ReachesNoAlias}
 use Rattle.symbols_paths.specs.Choice.{IsForestFoundBySearch, IsForestFoundBySearchWithParts}
 use Rattle.symbols_paths.specs.Views.{symbol_by_specifier, paths_by_specifier, modules_of_paths, AreModulesStored}
-use Rattle.symbols_paths.specs.NeededModules.{IsNeededModuleRefused}
+use Rattle.symbols_paths.specs.NeededModules.{IsFaultOfStoringNeededModule}
 
--- the paths of a symbol under parts. `derived`: the list can be derived. `leaves`: each leaf is one of the symbol's under the parts.
--- `first`: a leaf of first reach is in the list, as the leaf it comes to under the parts. `lossless`: no leaf that first candidates lead to
--- is lost, if no alias takes part in resolving itself, and no search reaches a symbol with two different remaining parts.
--- `all_without_alias`: the same if the query's own search reaches no alias, and no symbol with two different remaining parts. `chosen`: it
--- is the list that the search returns.
-pub record ArePathsWithParts (rules : Rules) (graph : GraphView) (s : SymbolBySpecifier) (ps : QualifiedNameParts) (paths : PathForest) : Type 0 where
-  pub derived : IsDerivedWithParts (routes_of rules graph) s ps paths
-  pub leaves : (x : PathLeaf) → Contains (leaves_of_forest paths) x → IsLeafWithParts (routes_of rules graph) s ps x
-  pub first : (x y : PathLeaf) → IsFirstCandidateLeaf (routes_of rules graph) s x → ReplacesLeafWithParts (routes_of rules graph) ps x y
+-- the paths of a symbol under parts. `is_forest_by_any_candidates`: the list can be derived. `has_only_leaves_of_symbol`: each leaf is one
+-- of the symbol's under the parts. `has_first_candidate_leaves`: a leaf of first reach is in the list, as the leaf it comes to under the
+-- parts. `loses_no_leaf`: no leaf that first candidates lead to is lost, if no alias takes part in resolving itself, and no search reaches
+-- a symbol with two different remaining parts. `loses_no_leaf_without_alias`: the same if the query's own search reaches no alias, and no
+-- symbol with two different remaining parts. `is_found_by_search`: it is the list that the search returns.
+pub record AreDefinitionPathsWithParts (rules : Rules) (graph : GraphView) (s : SymbolBySpecifier) (ps : QualifiedNameParts) (paths : PathForest) : Type 0 where
+  pub is_forest_by_any_candidates : IsForestWithPartsByAnyCandidates (search_targets_of rules graph) s ps paths
+  pub has_only_leaves_of_symbol : (x : PathLeaf) → Contains (leaves_of_forest paths) x → IsLeafWithParts (search_targets_of rules graph) s ps x
+  pub has_first_candidate_leaves : (x y : PathLeaf) → IsLeafByFirstCandidatesNoAlias (search_targets_of rules graph) s x → IsLeafWithAnyPartsResolved
+      (search_targets_of rules graph) ps x y
       → Contains (leaves_of_forest paths) y
-  pub lossless : HasNoAliasCycle (routes_of rules graph) s ps → HasUniqueRemainingParts (routes_of rules graph) s ps → (x : PathLeaf)
-      → IsLeafByFirstCandidatesWithParts (routes_of rules graph) s ps x → Contains (leaves_of_forest paths) x
-  pub all_without_alias : ReachesNoAlias (routes_of rules graph) s ps → HasUniquePartsOutsideAliases (routes_of rules graph) s ps → (x : PathLeaf)
-      → IsLeafByFirstCandidatesWithParts (routes_of rules graph) s ps x → Contains (leaves_of_forest paths) x
-  pub chosen : IsForestFoundBySearchWithParts (routes_of rules graph) s ps paths
+  pub loses_no_leaf : HasNoAliasCycle (search_targets_of rules graph) s ps → HasUniqueRemainingPartsInEachSearch (search_targets_of rules graph) s ps →
+      (x : PathLeaf)
+      → IsLeafByFirstCandidatesWithParts (search_targets_of rules graph) s ps x → Contains (leaves_of_forest paths) x
+  pub loses_no_leaf_without_alias : ReachesNoAlias (search_targets_of rules graph) s ps → HasUniqueRemainingPartsInMainSearch
+      (search_targets_of rules graph) s ps → (x : PathLeaf)
+      → IsLeafByFirstCandidatesWithParts (search_targets_of rules graph) s ps x → Contains (leaves_of_forest paths) x
+  pub is_found_by_search : IsForestFoundBySearchWithParts (search_targets_of rules graph) s ps paths
 
--- the paths of a symbol without parts, as above, but for `all_without_alias` it is enough that the query's own search reaches no alias.
--- `once`: if it reaches none, no declaration is a definition twice. `parts`: an unresolved part, unless after an alias, occurs only if all
--- leaves of first reach of its candidates do.
+-- the paths of a symbol without parts, as above, but for `loses_no_leaf_without_alias` it is enough that the query's own search reaches no
+-- alias. `has_no_duplicates`: if it reaches none, no declaration is a definition twice. `unresolved_parts_come_last`: an unresolved part,
+-- unless after an alias, occurs only if all leaves of first reach of its candidates do.
 pub record AreDefinitionPaths (rules : Rules) (graph : GraphView) (s : SymbolBySpecifier) (paths : PathForest) : Type 0 where
-  pub derived : IsDerivedForest (routes_of rules graph) s paths
-  pub leaves : (x : PathLeaf) → Contains (leaves_of_forest paths) x → IsLeafOfSymbol (routes_of rules graph) s x
-  pub first : (x : PathLeaf) → IsFirstCandidateLeaf (routes_of rules graph) s x → Contains (leaves_of_forest paths) x
-  pub once : ReachesNoAlias (routes_of rules graph) s [] → HasDistinctDefinitions (leaves_of_forest paths)
-  pub parts : IsUnresolvedPartLast rules graph paths (leaves_of_forest paths)
-  pub lossless : HasNoAliasCycle (routes_of rules graph) s [] → HasUniqueRemainingParts (routes_of rules graph) s [] → (x : PathLeaf)
-      → IsLeafByFirstCandidates (routes_of rules graph) s x
+  pub is_forest_by_any_candidates : IsForestByAnyCandidates (search_targets_of rules graph) s paths
+  pub has_only_leaves_of_symbol : (x : PathLeaf) → Contains (leaves_of_forest paths) x → IsLeafOfSymbol (search_targets_of rules graph) s x
+  pub has_first_candidate_leaves : (x : PathLeaf) → IsLeafByFirstCandidatesNoAlias (search_targets_of rules graph) s x → Contains (leaves_of_forest paths) x
+  pub has_no_duplicates : ReachesNoAlias (search_targets_of rules graph) s [] → HasDistinctDefinitions (leaves_of_forest paths)
+  pub unresolved_parts_come_last : IsPartUnresolvedOnlyAfterCandidates rules graph paths (leaves_of_forest paths)
+  pub loses_no_leaf : HasNoAliasCycle (search_targets_of rules graph) s [] → HasUniqueRemainingPartsInEachSearch (search_targets_of rules graph) s [] →
+      (x : PathLeaf)
+      → IsLeafByFirstCandidatesOrAlias (search_targets_of rules graph) s x
       → Contains (leaves_of_forest paths) x
-  pub all_without_alias : ReachesNoAlias (routes_of rules graph) s [] → (x : PathLeaf) → IsLeafByFirstCandidates (routes_of rules graph) s x
+  pub loses_no_leaf_without_alias : ReachesNoAlias (search_targets_of rules graph) s [] → (x : PathLeaf) → IsLeafByFirstCandidatesOrAlias
+      (search_targets_of rules graph) s x
       → Contains (leaves_of_forest paths) x
-  pub chosen : IsForestFoundBySearch (routes_of rules graph) s paths
+  pub is_found_by_search : IsForestFoundBySearch (search_targets_of rules graph) s paths
 
 -- the paths of a symbol under any parts, or without parts
-abbrev pub ArePathsFor : Rules → GraphView → SymbolBySpecifier → QualifiedNameParts → PathForest → Type 0
-ArePathsFor rules graph s [] paths = AreDefinitionPaths rules graph s paths
-ArePathsFor rules graph s (p ∷ ps) paths = ArePathsWithParts rules graph s (p ∷ ps) paths
+abbrev pub AreDefinitionPathsWithAnyParts : Rules → GraphView → SymbolBySpecifier → QualifiedNameParts → PathForest → Type 0
+AreDefinitionPathsWithAnyParts rules graph s [] paths = AreDefinitionPaths rules graph s paths
+AreDefinitionPathsWithAnyParts rules graph s (p ∷ ps) paths = AreDefinitionPathsWithParts rules graph s (p ∷ ps) paths
 
 -- the symbol of a stored module, by its number
 abbrev pub symbol_in_root : RootView → ModuleId → SymbolId → Option SymbolView
@@ -67,14 +74,14 @@ abbrev pub HasSymbol : RootView → ModuleId → SymbolId → Type 0
 HasSymbol root module_id s = IsStored root module_id × (symbol_in_root root module_id s ≢ None)
 
 -- a result: the module is stored and has the symbol, the paths are those of the symbol, and the modules of the paths are stored
-pub record IsPathsAnswer (old new : RootView) (module_id : ModuleId) (s : SymbolId) (paths : List DefinitionPathNode) : Type 0 where
+pub record IsFindDefinitionPathsResult (old new : RootView) (module_id : ModuleId) (s : SymbolId) (paths : List DefinitionPathNode) : Type 0 where
   pub known : module_id.0 < length old.stored
   pub has_symbol : symbol_in_root old module_id s ≢ None
   pub are_paths : AreDefinitionPaths old.rules old.graph (symbol_by_specifier old module_id s) (paths_by_specifier new paths)
   pub stored : AreModulesStored new (modules_of_paths paths)
 
 -- a fault: no module with this id is stored, and the root is unchanged
-pub record IsUnknownModule (old new : RootView) (module_id : ModuleId) (fault : SymbolsFault) : Type 0 where
+pub record IsUnknownModuleOfSymbol (old new : RootView) (module_id : ModuleId) (fault : SymbolsFault) : Type 0 where
   pub unknown : length old.stored ≤ module_id.0
   pub fault_is : fault ≡ UnknownModule
   pub unchanged : new ≡ old
@@ -87,12 +94,12 @@ pub record IsUnknownSymbol (old new : RootView) (module_id : ModuleId) (s : Symb
   pub unchanged : new ≡ old
 
 -- a fault: a module that the search needs can't be stored, or an allocation failed
-pub record IsSearchRefused (old new : RootView) (module_id : ModuleId) (s : SymbolId) (fault : SymbolsFault) : Type 0 where
+pub record IsFaultOfSearchForPaths (old new : RootView) (module_id : ModuleId) (s : SymbolId) (fault : SymbolsFault) : Type 0 where
   pub known : module_id.0 < length old.stored
   pub has_symbol : symbol_in_root old module_id s ≢ None
-  pub refused : IsNeededModuleRefused new (specifier_in old module_id) fault
+  pub refused : IsFaultOfStoringNeededModule new (specifier_in old module_id) fault
 
 -- the faults of a call
-abbrev pub IsPathsFault : RootView → RootView → ModuleId → SymbolId → SymbolsFault → Type 0
-IsPathsFault old new module_id s fault =
-    IsUnknownModule old new module_id fault ⊎ IsUnknownSymbol old new module_id s fault ⊎ IsSearchRefused old new module_id s fault
+abbrev pub IsFindDefinitionPathsFault : RootView → RootView → ModuleId → SymbolId → SymbolsFault → Type 0
+IsFindDefinitionPathsFault old new module_id s fault =
+    IsUnknownModuleOfSymbol old new module_id fault ⊎ IsUnknownSymbol old new module_id s fault ⊎ IsFaultOfSearchForPaths old new module_id s fault

@@ -8,7 +8,7 @@ use Rattle.symbols_ast.specs.declared.ids.SymbolId.{SymbolId}
 use Rattle.symbols_ast.specs.declared.tree.arena.SourceRange.{SourceRange}
 use Rattle.symbols_ast.specs.Graph.{GraphView}
 use Rattle.symbols_ast.specs.Ids.{IdView}
-use Rattle.symbols_table.specs.Changes.{mapped_symbol_after}
+use Rattle.symbols_table.specs.Changes.{symbol_of_ident_after_changes}
 use Rattle.symbols_table.specs.DeclViews.{all_names, one_name, FileDepView, DeclKindView, target, qualified_target, file_ref, definition, Declaration}
 use Rattle.symbols_table.specs.SymbolViews.{SymbolView, symbol_after_changes}
 use Rattle.symbols_table.specs.Events.{default_export_name}
@@ -40,8 +40,8 @@ abbrev pub DeclTargets : Type 0
 DeclTargets = SymbolBySpecifier → List DeclTargetView
 
 -- the declaration of `s` at index `i` has this target
-abbrev pub IsDeclTargetAt : DeclTargets → SymbolBySpecifier → ℕ → DeclTargetView → Type 0
-IsDeclTargetAt table s i decl_target = slice_get (table s) i ≡ Some decl_target
+abbrev pub IsTargetOfNthDecl : DeclTargets → SymbolBySpecifier → ℕ → DeclTargetView → Type 0
+IsTargetOfNthDecl table s i decl_target = slice_get (table s) i ≡ Some decl_target
 
 -- forwards to no candidate and no unresolved entry: no path
 abbrev pub forward_to_nothing : SymbolBySpecifier → ForwardTarget
@@ -57,7 +57,7 @@ forward_to_export s explicit = record { symbol = s; parts = []; candidates = exp
 
 -- the symbol of a name in the module of this specifier
 abbrev pub symbol_of_id : GraphView → List ℕ → IdView → Option SymbolId
-symbol_of_id graph specifier id = mapped_symbol_after (changes_of_module graph specifier) id
+symbol_of_id graph specifier id = symbol_of_ident_after_changes (changes_of_module graph specifier) id
 
 -- the symbol that a module exports locally under a name
 abbrev pub explicit_export : GraphView → List ℕ → List ℕ → Option SymbolId
@@ -94,15 +94,15 @@ forward_into_module rules graph s name specifier None = record {
 }
 
 -- a named import: forwards into the module of its specifier, or to an unresolved specifier
-abbrev pub import_forward : Rules → GraphView → SymbolBySpecifier → List ℕ → List ℕ → Option (List ℕ) → ForwardTarget
-import_forward rules graph s name specifier_text None =
+abbrev pub forward_of_import : Rules → GraphView → SymbolBySpecifier → List ℕ → List ℕ → Option (List ℕ) → ForwardTarget
+forward_of_import rules graph s name specifier_text None =
     forward_to_unresolved s [] (record { specifier = s.specifier; reason = no_module specifier_text; parts = [] })
-import_forward rules graph s name specifier_text (Some specifier) = forward_into_module rules graph s name specifier (explicit_export graph specifier name)
+forward_of_import rules graph s name specifier_text (Some specifier) = forward_into_module rules graph s name specifier (explicit_export graph specifier name)
 
 -- another name of the module: forwards to its symbol, which the link has as its symbol too
-abbrev pub same_module_forward : SymbolBySpecifier → Option SymbolId → ForwardTarget
-same_module_forward s None = forward_to_nothing s
-same_module_forward s (Some t) = record {
+abbrev pub forward_within_module : SymbolBySpecifier → Option SymbolId → ForwardTarget
+forward_within_module s None = forward_to_nothing s
+forward_within_module s (Some t) = record {
   symbol = record { specifier = s.specifier; number = t };
   parts = [];
   candidates = record { specifier = s.specifier; number = t } ∷ [];
@@ -119,8 +119,8 @@ abbrev pub target_of_decl : Rules → GraphView → SymbolBySpecifier → Source
 target_of_decl rules graph s range (definition _) = defines range None
 target_of_decl rules graph s range (file_ref all_names specifier_text) = defines range (Some (record { name = all_names; specifier = specifier_text }))
 target_of_decl rules graph s range (file_ref (one_name name) specifier_text) =
-    forwards (import_forward rules graph s name specifier_text (resolve_specifier graph s.specifier specifier_text))
-target_of_decl rules graph s range (target id) = forwards (same_module_forward s (symbol_of_id graph s.specifier id))
+    forwards (forward_of_import rules graph s name specifier_text (resolve_specifier graph s.specifier specifier_text))
+target_of_decl rules graph s range (target id) = forwards (forward_within_module s (symbol_of_id graph s.specifier id))
 target_of_decl rules graph s range (qualified_target id parts) = alias_target s id parts (symbol_of_id graph s.specifier id)
 
 -- the declarations of a symbol; none if the module has no such symbol

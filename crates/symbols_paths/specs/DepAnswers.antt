@@ -16,11 +16,11 @@ use Rattle.symbols_paths.specs.declared.symbol_dep.ResolvedSymbolDepEntry.TheVar
 use Rattle.symbols_paths.specs.PathTrees.{SymbolBySpecifier, QualifiedNameParts, no_symbol, no_module, unresolved, PathTree, PathForest, leaf, no_trees}
 use Rattle.symbols_paths.specs.PathTrees.{more_trees, forest_of_tree}
 use Rattle.symbols_paths.specs.DeclTargets.{symbol_of_id}
-use Rattle.symbols_paths.specs.PartTargets.{PartTargetView, to, itself, lacks, import_part_target}
+use Rattle.symbols_paths.specs.PartTargets.{PartTargetView, part_is_symbol, itself, part_is_unresolved, import_part_target}
 use Rattle.symbols_paths.specs.Computed.{paths_with_parts}
 use Rattle.symbols_paths.specs.Views.{path_by_specifier, concat_module_ids, modules_of_path}
-use Rattle.symbols_paths.specs.NeededModules.{IsNeededByReference, IsOneRefused}
-use Rattle.symbols_paths.specs.Answers.{ArePathsFor}
+use Rattle.symbols_paths.specs.NeededModules.{IsNeededByReference, IsFaultOfStoringOneOf}
+use Rattle.symbols_paths.specs.Answers.{AreDefinitionPathsWithAnyParts}
 
 -- an entry: a path, or the specifier of a module
 pub data DepEntryView : Type 0 where
@@ -45,75 +45,77 @@ path_entries no_trees = []
 path_entries (more_trees t f) = path_dep_entry t ∷ path_entries f
 
 -- a symbol, and the parts to resolve in it
-abbrev pub ReferencedSymbol : Type 0
-ReferencedSymbol = SymbolBySpecifier × QualifiedNameParts
+abbrev pub ReferencedSymbolWithParts : Type 0
+ReferencedSymbolWithParts = SymbolBySpecifier × QualifiedNameParts
 
 -- the symbol of a name in a module, with the parts after the name
-abbrev pub referenced_by_id : GraphView → List ℕ → IdView → QualifiedNameParts → Option ReferencedSymbol
-referenced_by_id graph specifier name parts =
+abbrev pub symbol_referenced_by_id : GraphView → List ℕ → IdView → QualifiedNameParts → Option ReferencedSymbolWithParts
+symbol_referenced_by_id graph specifier name parts =
     option_map (λ (t : SymbolId). (record { specifier = specifier; number = t }, parts)) (symbol_of_id graph specifier name)
 
 -- the symbol that the first part resolves to, with the other parts
-abbrev pub referenced_by_part : QualifiedNameParts → PartTargetView → Option ReferencedSymbol
-referenced_by_part remaining (to t) = Some (t, remaining)
-referenced_by_part remaining itself = None
-referenced_by_part remaining (lacks m) = None
+abbrev pub symbol_referenced_by_part : QualifiedNameParts → PartTargetView → Option ReferencedSymbolWithParts
+symbol_referenced_by_part remaining (part_is_symbol t) = Some (t, remaining)
+symbol_referenced_by_part remaining itself = None
+symbol_referenced_by_part remaining (part_is_unresolved m) = None
 
 -- the symbol and the parts of a reference in a module. None if the name has no symbol, the specifier resolves to no module, the module
 -- doesn't export the first part, or the reference is to a module itself.
-abbrev pub referenced_symbol : GraphView → List ℕ → SymbolReference → Option ReferencedSymbol
-referenced_symbol graph specifier (id name) = referenced_by_id graph specifier name []
-referenced_symbol graph specifier (qualified_id name parts) = referenced_by_id graph specifier name parts
+abbrev pub referenced_symbol : GraphView → List ℕ → SymbolReference → Option ReferencedSymbolWithParts
+referenced_symbol graph specifier (id name) = symbol_referenced_by_id graph specifier name []
+referenced_symbol graph specifier (qualified_id name parts) = symbol_referenced_by_id graph specifier name parts
 referenced_symbol graph specifier (import_type specifier_text []) = None
 referenced_symbol graph specifier (import_type specifier_text (part ∷ remaining)) =
-    referenced_by_part remaining (import_part_target graph specifier specifier_text part remaining (resolve_specifier graph specifier specifier_text))
+    symbol_referenced_by_part remaining (import_part_target graph specifier specifier_text part remaining (resolve_specifier graph specifier specifier_text))
 
 -- the unresolved entry of a name without a symbol
-abbrev pub missing_id_path : List ℕ → IdView → QualifiedNameParts → PathForest
-missing_id_path specifier name parts = forest_of_tree (leaf (unresolved (record { specifier = specifier; reason = no_symbol name; parts = parts })))
+abbrev pub unresolved_id_path : List ℕ → IdView → QualifiedNameParts → PathForest
+unresolved_id_path specifier name parts = forest_of_tree (leaf (unresolved (record { specifier = specifier; reason = no_symbol name; parts = parts })))
 
-abbrev pub missing_part_path : PartTargetView → PathForest
-missing_part_path (to t) = no_trees
-missing_part_path itself = no_trees
-missing_part_path (lacks m) = forest_of_tree (leaf (unresolved m))
+abbrev pub unresolved_part_path : PartTargetView → PathForest
+unresolved_part_path (part_is_symbol t) = no_trees
+unresolved_part_path itself = no_trees
+unresolved_part_path (part_is_unresolved m) = forest_of_tree (leaf (unresolved m))
 
-abbrev pub module_entry : List ℕ → List ℕ → Option (List ℕ) → DepEntryView
-module_entry specifier specifier_text (Some target_specifier) = module_dep_entry target_specifier
-module_entry specifier specifier_text None =
+abbrev pub entry_of_imported_module : List ℕ → List ℕ → Option (List ℕ) → DepEntryView
+entry_of_imported_module specifier specifier_text (Some target_specifier) = module_dep_entry target_specifier
+entry_of_imported_module specifier specifier_text None =
     path_dep_entry (leaf (unresolved (record { specifier = specifier; reason = no_module specifier_text; parts = [] })))
 
 -- the entries of a reference without a symbol: one unresolved entry, or the module
-abbrev pub entries_without_symbol : GraphView → List ℕ → SymbolReference → List DepEntryView
-entries_without_symbol graph specifier (id name) = path_entries (missing_id_path specifier name [])
-entries_without_symbol graph specifier (qualified_id name parts) = path_entries (missing_id_path specifier name parts)
-entries_without_symbol graph specifier (import_type specifier_text []) =
-    module_entry specifier specifier_text (resolve_specifier graph specifier specifier_text) ∷ []
-entries_without_symbol graph specifier (import_type specifier_text (part ∷ remaining)) =
-    path_entries (missing_part_path (import_part_target graph specifier specifier_text part remaining (resolve_specifier graph specifier specifier_text)))
+abbrev pub entries_of_reference_without_symbol : GraphView → List ℕ → SymbolReference → List DepEntryView
+entries_of_reference_without_symbol graph specifier (id name) = path_entries (unresolved_id_path specifier name [])
+entries_of_reference_without_symbol graph specifier (qualified_id name parts) = path_entries (unresolved_id_path specifier name parts)
+entries_of_reference_without_symbol graph specifier (import_type specifier_text []) =
+    entry_of_imported_module specifier specifier_text (resolve_specifier graph specifier specifier_text) ∷ []
+entries_of_reference_without_symbol graph specifier (import_type specifier_text (part ∷ remaining)) =
+    path_entries (unresolved_part_path (import_part_target graph specifier specifier_text part remaining (resolve_specifier graph specifier specifier_text)))
 
 -- the entries, as a function of the rules and the graph
 abbrev pub dep_entries_of : Rules → GraphView → List ℕ → SymbolReference → List DepEntryView
 dep_entries_of rules graph specifier reference =
-    option_map_or (λ (referenced : ReferencedSymbol). path_entries (paths_with_parts rules graph referenced.0 referenced.1))
-    (referenced_symbol graph specifier reference) (entries_without_symbol graph specifier reference)
+    option_map_or (λ (referenced : ReferencedSymbolWithParts). path_entries (paths_with_parts rules graph referenced.0 referenced.1))
+    (referenced_symbol graph specifier reference) (entries_of_reference_without_symbol graph specifier reference)
 
 -- a result: the paths of the symbol under the parts if the reference has one, else the other entries
-abbrev pub IsDepAnswer : Rules → GraphView → List ℕ → SymbolReference → List DepEntryView → Type 0
-IsDepAnswer rules graph specifier reference entries = MatchOption (referenced_symbol graph specifier reference) (entries
-    ≡ entries_without_symbol graph specifier reference) (λ referenced. (paths : PathForest) × ArePathsFor rules graph referenced.0 referenced.1 paths
+abbrev pub AreResolvedEntriesOfReference : Rules → GraphView → List ℕ → SymbolReference → List DepEntryView → Type 0
+AreResolvedEntriesOfReference rules graph specifier reference entries = MatchOption (referenced_symbol graph specifier reference) (entries
+    ≡ entries_of_reference_without_symbol graph specifier reference) (λ referenced. (paths : PathForest)
+    × AreDefinitionPathsWithAnyParts rules graph referenced.0 referenced.1 paths
     × (entries ≡ path_entries paths))
 
 -- a fault: storing a module failed that the reference may need, or an allocation failed
-abbrev pub IsDepRefused : RootView → List ℕ → SymbolReference → SymbolsFault → Type 0
-IsDepRefused root specifier reference fault = IsOneRefused root (IsNeededByReference root.rules root.graph specifier reference) fault
+abbrev pub IsFaultOfStoringForReference : RootView → List ℕ → SymbolReference → SymbolsFault → Type 0
+IsFaultOfStoringForReference root specifier reference fault = IsFaultOfStoringOneOf root (IsNeededByReference root.rules root.graph specifier reference) fault
 
 -- a fault: no module with this id is stored, and the root is unchanged
-pub record IsUnknownDepModule (old new : RootView) (module_id : ModuleId) (fault : SymbolsFault) : Type 0 where
+pub record IsUnknownModuleOfReference (old new : RootView) (module_id : ModuleId) (fault : SymbolsFault) : Type 0 where
   pub unknown : length old.stored ≤ module_id.0
   pub fault_is : fault ≡ UnknownModule
   pub unchanged : new ≡ old
 
 -- the faults of a call
-abbrev pub IsDepFault : RootView → RootView → ModuleId → SymbolReference → SymbolsFault → Type 0
-IsDepFault old new module_id reference fault =
-    IsUnknownDepModule old new module_id fault ⊎ ((module_id.0 < length old.stored) × IsDepRefused new (specifier_in old module_id) reference fault)
+abbrev pub IsResolveSymbolDepFault : RootView → RootView → ModuleId → SymbolReference → SymbolsFault → Type 0
+IsResolveSymbolDepFault old new module_id reference fault =
+    IsUnknownModuleOfReference old new module_id fault ⊎ ((module_id.0 < length old.stored) × IsFaultOfStoringForReference new
+    (specifier_in old module_id) reference fault)

@@ -7,8 +7,8 @@ use Rattle.symbols_paths.specs.PathTrees.{SymbolBySpecifier, DeclBySpecifier, Qu
 use Rattle.symbols_paths.specs.PathTrees.{definition}
 use Rattle.symbols_paths.specs.PathTrees.{unresolved, PathTree, PathForest, leaf, link, no_trees, more_trees}
 use Rattle.symbols_paths.specs.DeclTargets.{DeclTargetView, DeclTargets, defines, forwards, alias}
-use Rattle.symbols_paths.specs.DeclTargets.{IsDeclTargetAt, re_exported_symbols_by_rules, decl_targets_of}
-use Rattle.symbols_paths.specs.PartTargets.{to, itself, lacks, SearchRoutes, routes_of}
+use Rattle.symbols_paths.specs.DeclTargets.{IsTargetOfNthDecl, re_exported_symbols_by_rules, decl_targets_of}
+use Rattle.symbols_paths.specs.PartTargets.{part_is_symbol, itself, part_is_unresolved, SearchTargets, search_targets_of}
 use Rattle.symbols_paths.specs.Derived.{definition_of_decl}
 
 -- what a declaration gives itself: a leaf, which is its definition or its unresolved entry; and its candidates. An alias gives neither.
@@ -17,39 +17,40 @@ IsLeafOfDecl s i (defines range star) x = x ≡ definition (definition_of_decl s
 IsLeafOfDecl s i (forwards forward) x = (missing : UnresolvedEntry) × (forward.otherwise ≡ Some missing) × (x ≡ unresolved missing)
 IsLeafOfDecl s i (alias t ps) x = ⊥
 
-abbrev pub HasCandidate : DeclTargetView → SymbolBySpecifier → Type 0
-HasCandidate (defines range star) t = ⊥
-HasCandidate (forwards forward) t = Contains forward.candidates t
-HasCandidate (alias u ps) t = ⊥
+abbrev pub HasSymbolAsCandidate : DeclTargetView → SymbolBySpecifier → Type 0
+HasSymbolAsCandidate (defines range star) t = ⊥
+HasSymbolAsCandidate (forwards forward) t = Contains forward.candidates t
+HasSymbolAsCandidate (alias u ps) t = ⊥
 
 mutual
   -- the leaves of a symbol: those of its declarations themselves, those of their candidates, and those of its aliases' symbols under their
   -- parts
-  pub data IsLeafOfSymbol (routes : SearchRoutes) : SymbolBySpecifier → PathLeaf → Type 0 where
-    given : {s : SymbolBySpecifier} {x : PathLeaf} (i : ℕ) (decl_target : DeclTargetView) → IsDeclTargetAt routes.decl_targets s i decl_target
+  pub data IsLeafOfSymbol (routes : SearchTargets) : SymbolBySpecifier → PathLeaf → Type 0 where
+    leaf_of_decl_itself : {s : SymbolBySpecifier} {x : PathLeaf} (i : ℕ) (decl_target : DeclTargetView) → IsTargetOfNthDecl routes.decl_targets s i decl_target
         → IsLeafOfDecl s i decl_target x
         → IsLeafOfSymbol routes s x
-    led : {s : SymbolBySpecifier} {x : PathLeaf} (i : ℕ) (decl_target : DeclTargetView) (t : SymbolBySpecifier)
-        → IsDeclTargetAt routes.decl_targets s i decl_target
-        → HasCandidate decl_target t → IsLeafOfSymbol routes t x → IsLeafOfSymbol routes s x
-    by_alias : {s : SymbolBySpecifier} {x : PathLeaf} (i : ℕ) (t : SymbolBySpecifier) (ps : QualifiedNameParts)
-        → IsDeclTargetAt routes.decl_targets s i (alias t ps)
+    via_candidate : {s : SymbolBySpecifier} {x : PathLeaf} (i : ℕ) (decl_target : DeclTargetView) (t : SymbolBySpecifier)
+        → IsTargetOfNthDecl routes.decl_targets s i decl_target
+        → HasSymbolAsCandidate decl_target t → IsLeafOfSymbol routes t x → IsLeafOfSymbol routes s x
+    via_alias : {s : SymbolBySpecifier} {x : PathLeaf} (i : ℕ) (t : SymbolBySpecifier) (ps : QualifiedNameParts)
+        → IsTargetOfNthDecl routes.decl_targets s i (alias t ps)
         → IsLeafWithParts routes t ps x → IsLeafOfSymbol routes s x
 
   -- the leaves under parts. An unresolved leaf stays. A definition stays, or gives the unresolved entry, or the leaves of the part's symbol
   -- under the other parts.
-  pub data IsLeafWithParts (routes : SearchRoutes) : SymbolBySpecifier → QualifiedNameParts → PathLeaf → Type 0 where
+  pub data IsLeafWithParts (routes : SearchTargets) : SymbolBySpecifier → QualifiedNameParts → PathLeaf → Type 0 where
     no_parts : {s : SymbolBySpecifier} {x : PathLeaf} → IsLeafOfSymbol routes s x → IsLeafWithParts routes s [] x
-    stays : {s : SymbolBySpecifier} {p : List ℕ} {ps : QualifiedNameParts} (m : UnresolvedEntry) → IsLeafOfSymbol routes s (unresolved m)
+    unresolved_leaf_stays : {s : SymbolBySpecifier} {p : List ℕ} {ps : QualifiedNameParts} (m : UnresolvedEntry) → IsLeafOfSymbol routes s (unresolved m)
         → IsLeafWithParts routes s (p ∷ ps) (unresolved m)
-    goes : {s : SymbolBySpecifier} {p : List ℕ} {ps : QualifiedNameParts} {x : PathLeaf} (y : DefinitionView) (t : SymbolBySpecifier)
-        → IsLeafOfSymbol routes s (definition y) → routes.part y p ps ≡ to t
+    via_next_symbol : {s : SymbolBySpecifier} {p : List ℕ} {ps : QualifiedNameParts} {x : PathLeaf} (y : DefinitionView) (t : SymbolBySpecifier)
+        → IsLeafOfSymbol routes s (definition y) → routes.part y p ps ≡ part_is_symbol t
         → IsLeafWithParts routes t ps x → IsLeafWithParts routes s (p ∷ ps) x
-    is_itself : {s : SymbolBySpecifier} {p : List ℕ} {ps : QualifiedNameParts} (y : DefinitionView) → IsLeafOfSymbol routes s (definition y)
+    definition_stays_itself : {s : SymbolBySpecifier} {p : List ℕ} {ps : QualifiedNameParts} (y : DefinitionView) → IsLeafOfSymbol routes s (definition y)
         → routes.part y p ps ≡ itself
         → IsLeafWithParts routes s (p ∷ ps) (definition y)
-    lacking : {s : SymbolBySpecifier} {p : List ℕ} {ps : QualifiedNameParts} (y : DefinitionView) (m : UnresolvedEntry) → IsLeafOfSymbol routes s (definition y)
-        → routes.part y p ps ≡ lacks m
+    definition_lacks_part : {s : SymbolBySpecifier} {p : List ℕ} {ps : QualifiedNameParts} (y : DefinitionView) (m : UnresolvedEntry) → IsLeafOfSymbol routes s
+        (definition y)
+        → routes.part y p ps ≡ part_is_unresolved m
         → IsLeafWithParts routes s (p ∷ ps) (unresolved m)
 
 -- first reach: the definition of a declaration, or its unresolved entry if it has no candidate; of the candidates the first alone
@@ -59,36 +60,37 @@ IsLeafOfDeclWithoutCandidates s i (forwards forward) x = (forward.candidates ≡
     × ((missing : UnresolvedEntry) × (forward.otherwise ≡ Some missing) × (x ≡ unresolved missing))
 IsLeafOfDeclWithoutCandidates s i (alias t ps) x = ⊥
 
-abbrev pub HasFirstCandidate : DeclTargetView → SymbolBySpecifier → Type 0
-HasFirstCandidate (defines range star) t = ⊥
-HasFirstCandidate (forwards forward) t = slice_get forward.candidates 0 ≡ Some t
-HasFirstCandidate (alias u ps) t = ⊥
+abbrev pub HasSymbolAsFirstCandidate : DeclTargetView → SymbolBySpecifier → Type 0
+HasSymbolAsFirstCandidate (defines range star) t = ⊥
+HasSymbolAsFirstCandidate (forwards forward) t = slice_get forward.candidates 0 ≡ Some t
+HasSymbolAsFirstCandidate (alias u ps) t = ⊥
 
 -- the symbols of first reach: those that first candidates lead to from `start`, through no alias
-pub data IsReachedByFirstCandidates (routes : SearchRoutes) (start : SymbolBySpecifier) : SymbolBySpecifier → Type 0 where
-  begun : IsReachedByFirstCandidates routes start start
-  goes : {t : SymbolBySpecifier} (s : SymbolBySpecifier) (i : ℕ) (decl_target : DeclTargetView) → IsReachedByFirstCandidates routes start s
-      → IsDeclTargetAt routes.decl_targets s i decl_target → HasFirstCandidate decl_target t → IsReachedByFirstCandidates routes start t
+pub data IsReachedByFirstCandidates (routes : SearchTargets) (start : SymbolBySpecifier) : SymbolBySpecifier → Type 0 where
+  at_search_start : IsReachedByFirstCandidates routes start start
+  via_next_symbol : {t : SymbolBySpecifier} (s : SymbolBySpecifier) (i : ℕ) (decl_target : DeclTargetView) → IsReachedByFirstCandidates routes start s
+      → IsTargetOfNthDecl routes.decl_targets s i decl_target → HasSymbolAsFirstCandidate decl_target t → IsReachedByFirstCandidates routes start t
 
 -- a leaf of first reach: the leaf of a declaration of a symbol of first reach
-pub record IsFirstCandidateLeaf (routes : SearchRoutes) (start : SymbolBySpecifier) (x : PathLeaf) : Type 0 where
+pub record IsLeafByFirstCandidatesNoAlias (routes : SearchTargets) (start : SymbolBySpecifier) (x : PathLeaf) : Type 0 where
   pub symbol : SymbolBySpecifier
   pub index : ℕ
   pub decl_target : DeclTargetView
-  pub near : IsReachedByFirstCandidates routes start symbol
-  pub occurs : IsDeclTargetAt routes.decl_targets symbol index decl_target
-  pub gives : IsLeafOfDeclWithoutCandidates symbol index decl_target x
+  pub is_reached_by_first_candidates : IsReachedByFirstCandidates routes start symbol
+  pub occurs : IsTargetOfNthDecl routes.decl_targets symbol index decl_target
+  pub is_leaf_of_decl : IsLeafOfDeclWithoutCandidates symbol index decl_target x
 
 -- leaf `x` comes to leaf `y` under the parts `p ∷ ps`, without a search
-pub data ReplacesLeaf (routes : SearchRoutes) (p : List ℕ) (ps : QualifiedNameParts) : PathLeaf → PathLeaf → Type 0 where
-  stays : {m : UnresolvedEntry} → ReplacesLeaf routes p ps (unresolved m) (unresolved m)
-  is_itself : {y : DefinitionView} → routes.part y p ps ≡ itself → ReplacesLeaf routes p ps (definition y) (definition y)
-  lacks_it : {y : DefinitionView} {m : UnresolvedEntry} → routes.part y p ps ≡ lacks m → ReplacesLeaf routes p ps (definition y) (unresolved m)
+pub data IsLeafWithPartsResolved (routes : SearchTargets) (p : List ℕ) (ps : QualifiedNameParts) : PathLeaf → PathLeaf → Type 0 where
+  unresolved_leaf_stays : {m : UnresolvedEntry} → IsLeafWithPartsResolved routes p ps (unresolved m) (unresolved m)
+  definition_stays_itself : {y : DefinitionView} → routes.part y p ps ≡ itself → IsLeafWithPartsResolved routes p ps (definition y) (definition y)
+  leaf_lacks_part : {y : DefinitionView} {m : UnresolvedEntry} → routes.part y p ps ≡ part_is_unresolved m → IsLeafWithPartsResolved routes p ps (definition y)
+      (unresolved m)
 
 -- the same for any parts; without parts a leaf comes to itself
-abbrev pub ReplacesLeafWithParts : SearchRoutes → QualifiedNameParts → PathLeaf → PathLeaf → Type 0
-ReplacesLeafWithParts routes [] x y = y ≡ x
-ReplacesLeafWithParts routes (p ∷ ps) x y = ReplacesLeaf routes p ps x y
+abbrev pub IsLeafWithAnyPartsResolved : SearchTargets → QualifiedNameParts → PathLeaf → PathLeaf → Type 0
+IsLeafWithAnyPartsResolved routes [] x y = y ≡ x
+IsLeafWithAnyPartsResolved routes (p ∷ ps) x y = IsLeafWithPartsResolved routes p ps x y
 
 -- ---- leaves that no alias takes part in
 
@@ -113,11 +115,11 @@ abbrev mutual
 
 -- an unresolved part of a module, unless after the link of an alias, occurs in `paths` only if `xs` has the leaves of first reach of all
 -- candidates along its `export *` statements
-abbrev pub IsUnresolvedPartLast : Rules → GraphView → PathForest → List PathLeaf → Type 0
-IsUnresolvedPartLast rules graph paths xs =
+abbrev pub IsPartUnresolvedOnlyAfterCandidates : Rules → GraphView → PathForest → List PathLeaf → Type 0
+IsPartUnresolvedOnlyAfterCandidates rules graph paths xs =
     (specifier name : List ℕ) (parts : QualifiedNameParts)
     → Contains (leaves_outside_aliases (decl_targets_of rules graph) paths)
     (unresolved (record { specifier = specifier; reason = no_part name; parts = parts })) →
     (c : SymbolBySpecifier) → Contains (re_exported_symbols_by_rules rules graph specifier name) c → (x : PathLeaf)
-    → IsFirstCandidateLeaf (routes_of rules graph) c x
+    → IsLeafByFirstCandidatesNoAlias (search_targets_of rules graph) c x
     → Contains xs x

@@ -19,7 +19,11 @@ use Rattle.symbols_paths.specs.declared.definition_path.DefinitionPathNode.{Defi
 use Rattle.symbols_paths.specs.declared.definition_path.DefinitionPathNode.TheFolds.{fold-DefinitionPathNode}
 use Rattle.symbols_paths.specs.declared.definition_path.DefinitionPathNode.TheOpen as open_node
 use Rattle.symbols_paths.specs.declared.definition_path.DefinitionPathNode.TheViews.{out-DefinitionPathNode, out-DefinitionPathNodeResolved}
+use Rattle.symbols_paths.specs.declared.definition_path.DefinitionPathNode.TheVariants as node
 use Rattle.symbols_paths.specs.declared.definition_path.DefinitionPathNodeResolved.{DefinitionPathNodeResolved}
+use Rattle.symbols_paths.specs.declared.definition_path.DefinitionPathNodeResolved.TheVariants as resolved
+use Rattle.symbols_paths.specs.declared.definition_path.OpenedPathNode.{OpenedPathNode}
+use Rattle.symbols_paths.specs.declared.definition_path.OpenedPathNode.TheVariants as opened
 use Rattle.symbols_paths.specs.declared.definition_unresolved.DefinitionUnresolved.{DefinitionUnresolved}
 use Rattle.symbols_paths.specs.declared.definition_unresolved.DefinitionUnresolvedKind.{DefinitionUnresolvedKind}
 use Rattle.symbols_paths.specs.declared.definition_unresolved.DefinitionUnresolvedKind.TheVariants as why
@@ -138,6 +142,12 @@ symbol_of_node x = by (out-DefinitionPathNode x)
     by : open_node.DefinitionPathNode-F DefinitionPathNode DefinitionPathNodeResolved DefinitionPathLink → Option SymbolId
     by (open_node.Resolved r) = symbol_of_resolved r
     by (open_node.Unresolved u) = None
+
+-- the node that was taken apart
+abbrev pub node_of_opened : OpenedPathNode → DefinitionPathNode
+node_of_opened (opened.Link l) = node.Resolved (resolved.Link l)
+node_of_opened (opened.Definition d) = node.Resolved (resolved.Definition d)
+node_of_opened (opened.Unresolved u) = node.Unresolved u
 
 -- an end as a leaf
 abbrev pub path_leaf_of_end : RootView → DefinitionOrUnresolved → PathLeaf

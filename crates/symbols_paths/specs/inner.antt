@@ -5,3 +5,6 @@ pub mod PathBuilders
 pub mod Needed
 pub mod SearchSteps
 pub mod DepAnswers
+pub mod StillToCome
+pub mod SearchWork
+pub mod SearchInvariants

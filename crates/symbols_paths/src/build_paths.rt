@@ -3,7 +3,9 @@
 ghost use Rattle.std.specs.Prelude.{◌≡◌, ◌<◌, ◌∷◌, [], length, IfOk};
 ghost use Rattle.std.specs.Option.{option_map_or};
 ghost use Rattle.symbols_root.specs.Roots.{RootView};
+ghost use Rattle.symbols_paths.specs.declared.path_builder.PathBuilder.TheVariants as builder;
 ghost use Rattle.symbols_paths.specs.PathTrees.{leaf, forest_of_tree, link_unless_empty};
+ghost use Rattle.symbols_paths.specs.Derived.{link_head_with_parts};
 ghost use Rattle.symbols_paths.specs.Views.{path_leaf_of_end, module_of_end, strings_view};
 ghost use Rattle.symbols_paths.specs.Views.{paths_by_specifier, modules_of_paths, AreModulesStored};
 ghost use Rattle.symbols_paths.specs.inner.PathBuilders.{remaining_parts, link_head_of_step};
@@ -17,7 +19,7 @@ ghost use Rattle.symbols_paths.specs.inner.PathBuilders.{modules_of_builders};
 
 use crate::definition_iter::DefinitionOrUnresolved;
 use crate::definition_path::{DefinitionPathLink, DefinitionPathNode, DefinitionPathNodeResolved};
-use crate::path_builder::{LinkStep, PathBuilder, Segment};
+use crate::path_builder::{LinkStep, OpenedBuilder, OpenedSegment, PathBuilder, Segment};
 use crate::path_links::copied_parts;
 use crate::shared_parts::SharedParts;
 use std::alloc::{AllocError, Global};
@@ -123,16 +125,38 @@ fn prepend_segment<'a>(
         → AreModulesStored root (modules_of_paths next.entry.items)
         → AreModulesStored root (modules_of_paths paths.items)) }
 {
-    match segment {
-        Segment::LinkStep(step) => prepend_link(alloc, step, next),
-        Segment::WithParts(parts, inner) => {
+    match segment.into_opened() {
+        OpenedSegment::LinkStep(step) => prepend_link(alloc, step, next),
+        OpenedSegment::WithParts(parts, inner) => {
             prepend_segments_with_parts(alloc, inner, &parts, next)
         }
     }
 }
 
-/// Returns the links of segments in front of `next`. All links get these parts.
-#[cycle(prepending)]
+/// Returns the link of a step in front of `next`. The link gets these parts.
+fn prepend_link_with_parts<'a>(
+    alloc: Global,
+    step: LinkStep,
+    parts: &SharedParts,
+    next: Vec<DefinitionPathNode<'a>>,
+) -> Result<Vec<DefinitionPathNode<'a>>, AllocError>
+    ensures view { IfOk result (λ paths. (root : RootView) → paths_by_specifier root paths.items
+        ≡ link_unless_empty (link_head_with_parts (link_head_of_step root step)
+        (remaining_parts parts.now)) (paths_by_specifier root next.entry.items)) }
+    ensures stored { IfOk result (λ paths. (root : RootView) → step.symbol.module_id.0
+        < length root.stored → AreModulesStored root (modules_of_paths next.entry.items)
+        → AreModulesStored root (modules_of_paths paths.items)) }
+{
+    let step = LinkStep {
+        symbol: step.symbol,
+        symbol_decl: step.symbol_decl,
+        parts: Some(parts.same()?),
+    };
+    prepend_link(alloc, step, next)
+}
+
+/// Returns the links of segments in front of `next`. All links get these parts. The segments still
+/// to be visited are in `stack`, the next one last.
 fn prepend_segments_with_parts<'a>(
     alloc: Global,
     segments: Vec<Segment>,
@@ -141,52 +165,57 @@ fn prepend_segments_with_parts<'a>(
 ) -> Result<Vec<DefinitionPathNode<'a>>, AllocError>
     ensures view { IfOk result (λ paths. (root : RootView) → paths_by_specifier root paths.items
         ≡ forest_below_links (link_heads_with_parts (remaining_parts parts.now)
-        (link_heads_of_segments root segments.items)) (paths_by_specifier root next.entry.items)) }
+        (link_heads_of_segments root segments.items))
+        (paths_by_specifier root next.entry.items)) }
     ensures stored { IfOk result (λ paths. (root : RootView)
         → AreModulesStored root (modules_of_segments segments.items)
         → AreModulesStored root (modules_of_paths next.entry.items)
         → AreModulesStored root (modules_of_paths paths.items)) }
 {
     let mut paths = next;
-    for segment in segments {
-        paths = prepend_segment_with_parts(alloc, segment, parts, paths)?;
+    let mut stack = segments;
+    stack.reverse();
+    while let Some(segment) = stack.pop() {
+        match segment.into_opened() {
+            OpenedSegment::LinkStep(step) => {
+                paths = prepend_link_with_parts(alloc, step, parts, paths)?;
+            }
+            OpenedSegment::WithParts(_parts, inner) => {
+                let mut inner = inner;
+                inner.reverse();
+                stack.append(&mut inner)?;
+            }
+        }
     }
     Ok(paths)
 }
 
-/// Returns the links of a segment in front of `next`. All links get these parts.
-#[cycle(prepending)]
-fn prepend_segment_with_parts<'a>(
+/// Returns the path of an end below segments.
+fn path_below_segments<'a>(
     alloc: Global,
-    segment: Segment,
-    parts: &SharedParts,
-    next: Vec<DefinitionPathNode<'a>>,
+    segments: Vec<Segment>,
+    end: DefinitionOrUnresolved<'a>,
 ) -> Result<Vec<DefinitionPathNode<'a>>, AllocError>
     ensures view { IfOk result (λ paths. (root : RootView) → paths_by_specifier root paths.items
-        ≡ forest_below_links
-        (link_heads_with_parts (remaining_parts parts.now) (link_heads_of_segment root segment))
-        (paths_by_specifier
-        root next.entry.items)) }
+        ≡ built_path root (builder.End segments end.entry)) }
     ensures stored { IfOk result (λ paths. (root : RootView)
-        → AreModulesStored root (modules_of_segment segment)
-        → AreModulesStored root (modules_of_paths next.entry.items)
+        → AreModulesStored root (modules_of_builder (builder.End segments end.entry))
         → AreModulesStored root (modules_of_paths paths.items)) }
 {
-    match segment {
-        Segment::LinkStep(step) => {
-            let step = LinkStep {
-                symbol: step.symbol,
-                symbol_decl: step.symbol_decl,
-                parts: Some(parts.same()?),
-            };
-            prepend_link(alloc, step, next)
-        }
-        Segment::WithParts(_, inner) => prepend_segments_with_parts(alloc, inner, parts, next),
-    }
+    let next = path_of_end(alloc, end)?;
+    prepend_segments(alloc, segments, next)
 }
 
-/// Returns the paths of builders, in order.
-#[cycle(building)]
+/// A fork whose branches are being built: its segments, the branches after the one that is being
+/// built, the next one last, and the paths before the fork.
+#[derive(Drop)]
+struct OpenFork<'a> {
+    segments: Vec<Segment>,
+    rest: Vec<PathBuilder<'a>>,
+    before: Vec<DefinitionPathNode<'a>>,
+}
+
+/// Returns the paths of builders, in order. The innermost of the open forks is the last of `forks`.
 pub(crate) fn build_paths<'a>(
     alloc: Global,
     builders: Vec<PathBuilder<'a>>,
@@ -198,35 +227,42 @@ pub(crate) fn build_paths<'a>(
         → AreModulesStored root (modules_of_paths paths.items)) }
 {
     let mut paths = Vec::new(alloc);
-    for builder in builders {
-        let mut more = build_path(alloc, builder)?;
-        paths.append(&mut more)?;
-    }
-    Ok(paths)
-}
-
-/// Returns the paths of a builder.
-#[cycle(building)]
-fn build_path<'a>(
-    alloc: Global,
-    builder: PathBuilder<'a>,
-) -> Result<Vec<DefinitionPathNode<'a>>, AllocError>
-    ensures view { IfOk result (λ paths. (root : RootView)
-        → paths_by_specifier root paths.items ≡ built_path root builder.entry) }
-    ensures stored { IfOk result (λ paths. (root : RootView)
-        → AreModulesStored root (modules_of_builder builder.entry)
-        → AreModulesStored root (modules_of_paths paths.items)) }
-{
-    match builder {
-        PathBuilder::End(segments, end) => {
-            let next = path_of_end(alloc, end)?;
-            prepend_segments(alloc, segments, next)
-        }
-        PathBuilder::Fork(segments, branches, last) => {
-            let mut next = build_paths(alloc, branches)?;
-            let mut more = build_path(alloc, Box::into_inner(last))?;
-            next.append(&mut more)?;
-            prepend_segments(alloc, segments, next)
+    let mut rest = builders;
+    rest.reverse();
+    let mut forks: Vec<OpenFork<'a>> = Vec::new(alloc);
+    loop {
+        if let Some(builder) = rest.pop() {
+            match builder.into_opened() {
+                OpenedBuilder::End(segments, end) => {
+                    let mut more = path_below_segments(alloc, segments, end)?;
+                    paths.append(&mut more)?;
+                }
+                OpenedBuilder::Fork(segments, branches, last) => {
+                    let mut branches = branches;
+                    branches.push(Box::into_inner(last))?;
+                    branches.reverse();
+                    forks.push(OpenFork {
+                        segments,
+                        rest,
+                        before: paths,
+                    })?;
+                    rest = branches;
+                    paths = Vec::new(alloc);
+                }
+            }
+        } else {
+            let Some(fork) = forks.pop() else {
+                return Ok(paths);
+            };
+            let OpenFork {
+                segments,
+                rest: after,
+                before,
+            } = fork;
+            let mut more = prepend_segments(alloc, segments, paths)?;
+            rest = after;
+            paths = before;
+            paths.append(&mut more)?;
         }
     }
 }

@@ -6,7 +6,7 @@ ghost use Rattle.std.specs.Option.{option_map, option_map_or};
 ghost use Rattle.symbols_ast.specs.Graph.{GraphView};
 ghost use Rattle.symbols_ast.specs.Ids.{IdView, id_view};
 ghost use Rattle.symbols_table.specs.DeclViews.{decl_view};
-ghost use Rattle.symbols_table.specs.Modules.{symbol_table_of_ref, mapped_symbol_in};
+ghost use Rattle.symbols_table.specs.Modules.{symbol_table_of_ref, symbol_of_ident_in_table};
 ghost use Rattle.symbols_root.specs.declared.rules.Rules.{Rules};
 ghost use Rattle.symbols_root.specs.Roots.{specifier_in};
 ghost use Rattle.symbols_root.specs.Calls.{IsStored};
@@ -14,7 +14,7 @@ ghost use Rattle.symbols_exports.specs.StarStatements.{star_specifiers};
 ghost use Rattle.symbols_paths.specs.PathTrees.{SymbolBySpecifier};
 ghost use Rattle.symbols_paths.specs.DeclTargets.{explicit_export, searches_stars_for};
 ghost use Rattle.symbols_paths.specs.DeclTargets.{declarations_of, target_of_decl, symbol_of_id};
-ghost use Rattle.symbols_paths.specs.PartTargets.{export_of_symbol, is_class_at};
+ghost use Rattle.symbols_paths.specs.PartTargets.{export_of_symbol, is_class_decl_at};
 ghost use Rattle.symbols_paths.specs.Views.{decl_by_specifier, strings_view};
 ghost use Rattle.symbols_paths.specs.inner.Views.{symbol_of_unique_id, first_part};
 ghost use Rattle.symbols_paths.specs.inner.SearchSteps.{decl_target_view, IsTargetImportedByDecl};
@@ -52,7 +52,7 @@ pub(crate) enum DeclTarget<'a> {
 
 /// Returns the symbol of a name of a module, or `None` if the name has none.
 fn symbol_id_of_id(info: ModuleInfoRef<'_, '_>, id: &Id) -> Option<SymbolId>
-    ensures { result ≡ mapped_symbol_in (symbol_table_of_ref info.entry) (id_view id.now) }
+    ensures { result ≡ symbol_of_ident_in_table (symbol_table_of_ref info.entry) (id_view id.now) }
 {
     match info.esm() {
         Some(esm) => esm.symbol_id_from_swc(id),
@@ -69,7 +69,7 @@ fn target_of_decl<'a>(
     ensures decl_targets { IfOk result
         (λ decl_target. (rules : Rules) (graph : GraphView) (s : SymbolBySpecifier) →
         ((id : IdView)
-        → mapped_symbol_in (symbol_table_of_ref info.entry) id ≡ symbol_of_id graph s.specifier
+        → symbol_of_ident_in_table (symbol_table_of_ref info.entry) id ≡ symbol_of_id graph s.specifier
         id)
         → decl_target_view rules graph s decl_target
         ≡ target_of_decl rules graph s (decl_view decl.now).range (decl_view decl.now).kind) }
@@ -215,9 +215,9 @@ pub(crate) fn export_of_symbol(
 
 /// Returns whether a declaration of a stored module is a class; false if there is no such
 /// declaration.
-pub(crate) fn is_class_at(root: &RootSymbol<'_>, module_id: ModuleId, decl: DeclRef) -> bool
+pub(crate) fn is_class_decl_at(root: &RootSymbol<'_>, module_id: ModuleId, decl: DeclRef) -> bool
     requires { IsStored root.now module_id }
-    ensures { result ≡ is_class_at root.now.graph (decl_by_specifier root.now module_id decl) }
+    ensures { result ≡ is_class_decl_at root.now.graph (decl_by_specifier root.now module_id decl) }
 {
     match decls_of_symbol(root, UniqueSymbolId::new(module_id, decl.symbol)) {
         Some(decls) => match decls.get(decl.index as usize) {

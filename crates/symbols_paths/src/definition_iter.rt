@@ -9,13 +9,12 @@ ghost use Rattle.symbols_paths.specs.Views.{definition_by_specifier, path_leaf_o
 ghost use Rattle.symbols_paths.specs.Views.{module_of_definition, module_of_end, symbol_of_end};
 ghost use Rattle.symbols_paths.specs.Views.{remaining_definitions, remaining_ends};
 ghost use Rattle.symbols_paths.specs.Views.{AreModulesStored};
-ghost use Rattle.symbols_paths.specs.inner.PathBuilders.{built_path, built_paths};
-ghost use Rattle.symbols_paths.specs.inner.PathBuilders.{modules_of_builder, modules_of_builders};
+ghost use Rattle.symbols_paths.specs.inner.PathBuilders.{built_paths, modules_of_builders};
 
 use crate::definition::Definition;
-use crate::definition_path::{DefinitionPathLink, DefinitionPathNode, DefinitionPathNodeResolved};
+use crate::definition_path::{DefinitionPathNode, OpenedPathNode};
 use crate::definition_unresolved::DefinitionUnresolved;
-use crate::path_builder::PathBuilder;
+use crate::path_builder::{OpenedBuilder, PathBuilder};
 use std::alloc::{AllocError, Global};
 use std::collections::VecDeque;
 use symbols_graph::ids::{ModuleId, SymbolId};
@@ -94,15 +93,8 @@ impl<'a> Iterator for DefinitionsIter<'a> {
     }
 }
 
-/// Returns the paths after a link.
-fn next_paths_of_link<'a>(link: DefinitionPathLink<'a>) -> Vec<DefinitionPathNode<'a>>
-    ensures { result.items ≡ link.entry.next.items }
-{
-    link.next
-}
-
-/// Appends the ends of paths, from left to right.
-#[cycle(ends)]
+/// Appends the ends of paths, from left to right. The paths still to be visited are in `stack`, the
+/// next one last.
 fn add_ends<'a>(
     paths: Vec<DefinitionPathNode<'a>>,
     left: &mut VecDeque<DefinitionOrUnresolved<'a>>,
@@ -111,39 +103,28 @@ fn add_ends<'a>(
         ≡ map (path_leaf_of_end root) left.old.items
         ++ leaves_of_forest (paths_by_specifier root paths.entry.items)) }
 {
-    for path in paths {
-        add_end(path, left)?;
+    let mut stack = paths;
+    stack.reverse();
+    while let Some(path) = stack.pop() {
+        match path.into_opened() {
+            OpenedPathNode::Unresolved(unresolved) => {
+                left.push_back(DefinitionOrUnresolved::Unresolved(unresolved))?;
+            }
+            OpenedPathNode::Definition(definition) => {
+                left.push_back(DefinitionOrUnresolved::Definition(definition))?;
+            }
+            OpenedPathNode::Link(link) => {
+                let mut next = link.next;
+                next.reverse();
+                stack.append(&mut next)?;
+            }
+        }
     }
     Ok(())
 }
 
-/// Appends the ends of a path, from left to right.
-#[cycle(ends)]
-fn add_end<'a>(
-    path: DefinitionPathNode<'a>,
-    left: &mut VecDeque<DefinitionOrUnresolved<'a>>,
-) -> Result<(), AllocError>
-    ensures { OnOk result ((root : RootView) → map (path_leaf_of_end root) left.new.items
-        ≡ map (path_leaf_of_end root) left.old.items
-        ++ leaves_of_tree (path_by_specifier root path.entry)) }
-{
-    match path {
-        DefinitionPathNode::Unresolved(unresolved) => {
-            left.push_back(DefinitionOrUnresolved::Unresolved(unresolved))?;
-            Ok(())
-        }
-        DefinitionPathNode::Resolved(DefinitionPathNodeResolved::Definition(definition)) => {
-            left.push_back(DefinitionOrUnresolved::Definition(definition))?;
-            Ok(())
-        }
-        DefinitionPathNode::Resolved(DefinitionPathNodeResolved::Link(link)) => {
-            add_ends(next_paths_of_link(link), left)
-        }
-    }
-}
-
-/// Appends the ends of builders, from left to right.
-#[cycle(builder_ends)]
+/// Appends the ends of builders, from left to right. The builders still to be visited are in
+/// `stack`, the next one last.
 fn add_builder_ends<'a>(
     builders: Vec<PathBuilder<'a>>,
     left: &mut VecDeque<DefinitionOrUnresolved<'a>>,
@@ -156,36 +137,20 @@ fn add_builder_ends<'a>(
         → AreModulesStored root (modules_of_builders builders.entry.items)
         → AreModulesStored root (map module_of_end left.new.items)) }
 {
-    for builder in builders {
-        add_builder_end(builder, left)?;
+    let mut stack = builders;
+    stack.reverse();
+    while let Some(builder) = stack.pop() {
+        match builder.into_opened() {
+            OpenedBuilder::End(_segments, end) => left.push_back(end)?,
+            OpenedBuilder::Fork(_segments, branches, last) => {
+                let mut branches = branches;
+                branches.reverse();
+                stack.push(Box::into_inner(last))?;
+                stack.append(&mut branches)?;
+            }
+        }
     }
     Ok(())
-}
-
-/// Appends the ends of a builder, from left to right.
-#[cycle(builder_ends)]
-fn add_builder_end<'a>(
-    builder: PathBuilder<'a>,
-    left: &mut VecDeque<DefinitionOrUnresolved<'a>>,
-) -> Result<(), AllocError>
-    ensures view { OnOk result ((root : RootView) → map (path_leaf_of_end root) left.new.items
-        ≡ map (path_leaf_of_end root) left.old.items
-        ++ leaves_of_forest (built_path root builder.entry)) }
-    ensures stored { OnOk result ((root : RootView)
-        → AreModulesStored root (map module_of_end left.old.items)
-        → AreModulesStored root (modules_of_builder builder.entry)
-        → AreModulesStored root (map module_of_end left.new.items)) }
-{
-    match builder {
-        PathBuilder::End(_, end) => {
-            left.push_back(end)?;
-            Ok(())
-        }
-        PathBuilder::Fork(_, branches, last) => {
-            add_builder_ends(branches, left)?;
-            add_builder_end(Box::into_inner(last), left)
-        }
-    }
 }
 
 /// Returns the ends of builders, from left to right.
@@ -258,8 +223,10 @@ impl<'a> DefinitionPathNode<'a> {
             → map (path_leaf_of_end root) (remaining_ends ends) ≡ leaves_of_tree
             (path_by_specifier root self.entry)) }
     {
+        let mut paths = Vec::new(alloc);
+        paths.push(self)?;
         let mut left = VecDeque::new(alloc);
-        add_end(self, &mut left)?;
+        add_ends(paths, &mut left)?;
         Ok(DefinitionsOrUnresolvedsIter { left })
     }
 

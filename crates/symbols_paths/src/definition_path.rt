@@ -1,11 +1,14 @@
 //! Definition paths, as trees.
 
-ghost use Rattle.std.specs.Prelude.{◌≡◌};
+ghost use Rattle.std.specs.Prelude.{◌≡◌, IfSome};
+ghost use Rattle.symbols_paths.specs.declared.definition_path.DefinitionPathNode.TheVariants as node;
+ghost use Rattle.symbols_paths.specs.declared.definition_path.DefinitionPathNodeResolved.TheVariants as resolved;
 ghost use Rattle.symbols_paths.specs.Views.{module_of_node, symbol_of_node, module_of_resolved};
-ghost use Rattle.symbols_paths.specs.Views.{symbol_of_resolved};
+ghost use Rattle.symbols_paths.specs.Views.{symbol_of_resolved, node_of_opened};
 
 use crate::definition::{DeclRef, Definition};
 use crate::definition_unresolved::DefinitionUnresolved;
+use std::mem;
 use symbols_graph::ids::{ModuleId, SymbolId};
 
 /// A link of a definition path: a declaration, and the paths from what it refers to (as
@@ -38,10 +41,71 @@ pub enum DefinitionPathNodeResolved<'a> {
 /// A definition path: a tree whose leaves are definitions and unresolved ends (as deno_graph). A
 /// link with several next nodes has a branch for each.
 #[cycle(nodes)]
-#[derive(Drop)]
 pub enum DefinitionPathNode<'a> {
     Resolved(DefinitionPathNodeResolved<'a>),
     Unresolved(DefinitionUnresolved),
+}
+
+/// A node of a path, taken apart (extension). A node itself can't be matched by value, since it has
+/// its own `Drop`.
+#[derive(Drop)]
+pub enum OpenedPathNode<'a> {
+    Link(DefinitionPathLink<'a>),
+    Definition(Definition<'a>),
+    Unresolved(DefinitionUnresolved),
+}
+
+/// Drops the nodes one after another, so that the stack doesn't bound the depth, and allocates
+/// nothing. The nodes that are still to be dropped are in `work`. Where the node at hand has next
+/// nodes, these become `work`, and a link above the others takes the place of the first of them.
+impl Drop for DefinitionPathNode<'_> {
+    fn drop(mut self) {
+        let Some(link) = self.into_link() else {
+            return;
+        };
+        let mut work = link.next;
+        let Some(first) = work.pop() else {
+            work.destroy_empty();
+            return;
+        };
+        self = first;
+        loop {
+            if let Some(link) = self.into_link() {
+                let DefinitionPathLink {
+                    module,
+                    symbol,
+                    symbol_decl,
+                    parts,
+                    mut next,
+                } = link;
+                if next.is_empty() {
+                    next.destroy_empty();
+                } else if work.is_empty() {
+                    work.destroy_empty();
+                    work = next;
+                } else {
+                    let link = DefinitionPathLink {
+                        module,
+                        symbol,
+                        symbol_decl,
+                        parts,
+                        next: work,
+                    };
+                    self = mem::replace(
+                        &mut next[0],
+                        DefinitionPathNode::Resolved(DefinitionPathNodeResolved::Link(link)),
+                    );
+                    work = next;
+                    continue;
+                }
+            }
+            let Some(node) = work.pop() else {
+                work.destroy_empty();
+                return;
+            };
+            self = node;
+        }
+    }
 }
 
 impl<'a> DefinitionPathNodeResolved<'a> {
@@ -67,6 +131,32 @@ impl<'a> DefinitionPathNodeResolved<'a> {
 }
 
 impl<'a> DefinitionPathNode<'a> {
+    /// Returns the link that this node is; any other node is dropped.
+    fn into_link(self) -> Option<DefinitionPathLink<'a>>
+        ensures { IfSome result (λ link. self.entry ≡ node.Resolved (resolved.Link link)) }
+    {
+        match self {
+            DefinitionPathNode::Resolved(DefinitionPathNodeResolved::Link(link)) => Some(link),
+            DefinitionPathNode::Resolved(DefinitionPathNodeResolved::Definition(_)) => None,
+            DefinitionPathNode::Unresolved(_) => None,
+        }
+    }
+
+    /// Takes this node apart (extension).
+    pub fn into_opened(self) -> OpenedPathNode<'a>
+        ensures { self.entry ≡ node_of_opened result }
+    {
+        match self {
+            DefinitionPathNode::Resolved(DefinitionPathNodeResolved::Link(link)) => {
+                OpenedPathNode::Link(link)
+            }
+            DefinitionPathNode::Resolved(DefinitionPathNodeResolved::Definition(definition)) => {
+                OpenedPathNode::Definition(definition)
+            }
+            DefinitionPathNode::Unresolved(unresolved) => OpenedPathNode::Unresolved(unresolved),
+        }
+    }
+
     /// Returns the module of this node (as deno_graph).
     pub fn module(&self) -> ModuleId
         ensures { result ≡ module_of_node self.now }

@@ -4,11 +4,11 @@ ghost use Rattle.std.specs.Prelude.{◌≡◌, ℕ, List, map, IfOk, IfErr};
 ghost use Rattle.symbols_nodes.specs.References.{reference_view};
 ghost use Rattle.symbols_root.specs.Roots.{specifier_in};
 ghost use Rattle.symbols_root.specs.Growing.{HasGrown};
-ghost use Rattle.symbols_root.specs.Calls.{IsStored, WidestLimitsSuffice};
+ghost use Rattle.symbols_root.specs.Calls.{IsStored, IsOnlyOutOfMemoryByWidestLimits};
 ghost use Rattle.symbols_exports.specs.ExportAnswers.{AreExportListsCorrectAndUnique};
 ghost use Rattle.symbols_paths.specs.PathTrees.{SymbolBySpecifier, QualifiedNameParts, PathForest};
 ghost use Rattle.symbols_paths.specs.PathTrees.{leaves_of_forest, definitions_among};
-ghost use Rattle.symbols_paths.specs.PartTargets.{routes_of_root};
+ghost use Rattle.symbols_paths.specs.PartTargets.{search_targets_of_root};
 ghost use Rattle.symbols_paths.specs.Choice.{IsForestFoundBySearch, IsForestFoundBySearchWithParts};
 ghost use Rattle.symbols_paths.specs.Computed.{definition_paths_of};
 ghost use Rattle.symbols_paths.specs.Views.{symbol_by_specifier, paths_by_specifier};
@@ -17,12 +17,13 @@ ghost use Rattle.symbols_paths.specs.Views.{path_leaf_of_end, module_of_definiti
 ghost use Rattle.symbols_paths.specs.Views.{remaining_definitions, remaining_ends};
 ghost use Rattle.symbols_paths.specs.Views.{AreModulesStored};
 ghost use Rattle.symbols_paths.specs.inner.PathBuilders.{built_paths, modules_of_builders};
-ghost use Rattle.symbols_paths.specs.NeededModules.{IsNeededByReference, StoresOnly};
-ghost use Rattle.symbols_paths.specs.NeededModules.{StoresOnlyNeeded};
-ghost use Rattle.symbols_paths.specs.Answers.{AreDefinitionPaths, HasSymbol, IsPathsAnswer};
-ghost use Rattle.symbols_paths.specs.Answers.{IsPathsFault};
+ghost use Rattle.symbols_paths.specs.NeededModules.{IsNeededByReference, AreNewlyStoredAmong};
+ghost use Rattle.symbols_paths.specs.NeededModules.{AreNewlyStoredNeededBySearch};
+ghost use Rattle.symbols_paths.specs.Answers.{AreDefinitionPaths, HasSymbol, IsFindDefinitionPathsResult};
+ghost use Rattle.symbols_paths.specs.Answers.{IsFindDefinitionPathsFault};
 ghost use Rattle.symbols_paths.specs.DepAnswers.{resolved_dep_entry_view, modules_of_entries};
-ghost use Rattle.symbols_paths.specs.DepAnswers.{dep_entries_of, IsDepAnswer, IsDepFault};
+ghost use Rattle.symbols_paths.specs.DepAnswers.{dep_entries_of, AreResolvedEntriesOfReference};
+ghost use Rattle.symbols_paths.specs.DepAnswers.{IsResolveSymbolDepFault};
 
 use crate::build_paths::build_paths;
 use crate::definition_iter::{
@@ -48,8 +49,9 @@ pub trait FindDefinitions<'a> {
     /// Returns the definition paths of a symbol of a stored module (as deno_graph, which takes a
     /// module and a symbol of it). The search follows other names of the module, aliases with
     /// qualifiers as `import A = B.C`, named imports, and `export *`. It expands each symbol once.
-    /// Of the exports along `export *` it takes the first that has a path. The `export *`
-    /// statements are not in the path.
+    /// Each `export *` of the imported module gives one candidate: the first export of the name
+    /// along it. The first candidate that has a path is taken. The `export *` statements are not in
+    /// the path.
     ///
     /// Qualifiers that remain to be resolved are called parts: `b` and `c` of `a.b.c`.
     ///
@@ -113,7 +115,7 @@ pub trait FindDefinitions<'a> {
 }
 
 /// Finds the paths of a symbol of a stored module, as builders.
-#[tactic(auto, using(crate::specs::laws::Storing::stores_nothing))]
+#[tactic(auto, using(crate::specs::laws::Storing::newly_stored_none))]
 fn path_builders<'a>(
     root: &mut RootSymbol<'a>,
     module_id: ModuleId,
@@ -129,12 +131,12 @@ fn path_builders<'a>(
     ensures known { IfOk result (λ builders. HasSymbol root.old module_id symbol_id) }
     ensures stored { IfOk result
         (λ builders. AreModulesStored root.new (modules_of_builders builders.items)) }
-    ensures faults { IfErr result (IsPathsFault root.old root.new module_id symbol_id) }
+    ensures faults { IfErr result (IsFindDefinitionPathsFault root.old root.new module_id symbol_id) }
     ensures grown { HasGrown root.old root.new }
-    ensures stores { StoresOnlyNeeded root.old root.new (specifier_in root.old module_id) }
+    ensures stores { AreNewlyStoredNeededBySearch root.old root.new (specifier_in root.old module_id) }
     ensures exports_listed { (start : List ℕ)
         → AreExportListsCorrectAndUnique root.old.graph start }
-    ensures enough { HasSymbol root.old module_id symbol_id → WidestLimitsSuffice root.old result }
+    ensures enough { HasSymbol root.old module_id symbol_id → IsOnlyOutOfMemoryByWidestLimits root.old result }
 {
     exports_are_listed(root);
     match root.module_from_id(module_id) {
@@ -158,24 +160,24 @@ impl<'a> FindDefinitions<'a> for RootSymbol<'a> {
         symbol_id: SymbolId,
     ) -> Result<Vec<DefinitionPathNode<'a>>, SymbolsFault>
         ensures answers { IfOk result
-            (λ paths. IsPathsAnswer self.old self.new module_id symbol_id paths.items) }
+            (λ paths. IsFindDefinitionPathsResult self.old self.new module_id symbol_id paths.items) }
         ensures listed { IfOk result (λ paths. paths_by_specifier self.new paths.items
             ≡ definition_paths_of self.old.rules self.old.graph
             (symbol_by_specifier self.old module_id
             symbol_id)) }
-        ensures faults { IfErr result (IsPathsFault self.old self.new module_id symbol_id) }
+        ensures faults { IfErr result (IsFindDefinitionPathsFault self.old self.new module_id symbol_id) }
         ensures grown { HasGrown self.old self.new }
-        ensures stores { StoresOnlyNeeded self.old self.new (specifier_in self.old module_id) }
+        ensures stores { AreNewlyStoredNeededBySearch self.old self.new (specifier_in self.old module_id) }
         ensures only { (f g : PathForest)
-            → IsForestFoundBySearch (routes_of_root self.old)
+            → IsForestFoundBySearch (search_targets_of_root self.old)
             (symbol_by_specifier self.old module_id symbol_id) f
-            → IsForestFoundBySearch (routes_of_root self.old)
+            → IsForestFoundBySearch (search_targets_of_root self.old)
             (symbol_by_specifier self.old module_id symbol_id) g
             → f ≡ g }
         ensures exports_listed { (start : List ℕ)
             → AreExportListsCorrectAndUnique self.old.graph start }
         ensures enough { HasSymbol self.old module_id symbol_id
-            → WidestLimitsSuffice self.old result }
+            → IsOnlyOutOfMemoryByWidestLimits self.old result }
     {
         match path_builders(self, module_id, symbol_id) {
             Err(fault) => Err(fault),
@@ -199,13 +201,13 @@ impl<'a> FindDefinitions<'a> for RootSymbol<'a> {
         ensures known { IfOk result (λ ends. HasSymbol self.old module_id symbol_id) }
         ensures stored { IfOk result
             (λ ends. AreModulesStored self.new (map module_of_end (remaining_ends ends))) }
-        ensures faults { IfErr result (IsPathsFault self.old self.new module_id symbol_id) }
+        ensures faults { IfErr result (IsFindDefinitionPathsFault self.old self.new module_id symbol_id) }
         ensures grown { HasGrown self.old self.new }
-        ensures stores { StoresOnlyNeeded self.old self.new (specifier_in self.old module_id) }
+        ensures stores { AreNewlyStoredNeededBySearch self.old self.new (specifier_in self.old module_id) }
         ensures exports_listed { (start : List ℕ)
             → AreExportListsCorrectAndUnique self.old.graph start }
         ensures enough { HasSymbol self.old module_id symbol_id
-            → WidestLimitsSuffice self.old result }
+            → IsOnlyOutOfMemoryByWidestLimits self.old result }
     {
         match path_builders(self, module_id, symbol_id) {
             Err(fault) => Err(fault),
@@ -233,13 +235,13 @@ impl<'a> FindDefinitions<'a> for RootSymbol<'a> {
         ensures stored { IfOk result (λ definitions.
             AreModulesStored self.new
             (map module_of_definition (remaining_definitions definitions))) }
-        ensures faults { IfErr result (IsPathsFault self.old self.new module_id symbol_id) }
+        ensures faults { IfErr result (IsFindDefinitionPathsFault self.old self.new module_id symbol_id) }
         ensures grown { HasGrown self.old self.new }
-        ensures stores { StoresOnlyNeeded self.old self.new (specifier_in self.old module_id) }
+        ensures stores { AreNewlyStoredNeededBySearch self.old self.new (specifier_in self.old module_id) }
         ensures exports_listed { (start : List ℕ)
             → AreExportListsCorrectAndUnique self.old.graph start }
         ensures enough { HasSymbol self.old module_id symbol_id
-            → WidestLimitsSuffice self.old result }
+            → IsOnlyOutOfMemoryByWidestLimits self.old result }
     {
         let ends = match self.go_to_definitions_or_unresolveds(module_id, symbol_id) {
             Err(fault) => return Err(fault),
@@ -248,14 +250,14 @@ impl<'a> FindDefinitions<'a> for RootSymbol<'a> {
         Ok(definitions_of_ends(self.alloc(), ends)?)
     }
 
-    #[tactic(auto, using(crate::specs::laws::Storing::stores_nothing))]
+    #[tactic(auto, using(crate::specs::laws::Storing::newly_stored_none))]
     fn resolve_symbol_dep(
         &mut self,
         module_id: ModuleId,
         dep: &SymbolNodeDep<'_>,
     ) -> Result<Vec<ResolvedSymbolDepEntry<'a>>, SymbolsFault>
         ensures answers { IfOk result (λ entries. IsStored self.old module_id
-            × IsDepAnswer self.old.rules self.old.graph (specifier_in self.old
+            × AreResolvedEntriesOfReference self.old.rules self.old.graph (specifier_in self.old
             module_id) (reference_view dep.now)
             (map (resolved_dep_entry_view self.new) entries.items)) }
         ensures listed { IfOk result (λ entries. map (resolved_dep_entry_view self.new) entries.items
@@ -264,16 +266,16 @@ impl<'a> FindDefinitions<'a> for RootSymbol<'a> {
         ensures stored { IfOk result
             (λ entries. AreModulesStored self.new (modules_of_entries entries.items)) }
         ensures faults { IfErr result
-            (IsDepFault self.old self.new module_id (reference_view dep.now)) }
+            (IsResolveSymbolDepFault self.old self.new module_id (reference_view dep.now)) }
         ensures grown { HasGrown self.old self.new }
-        ensures stores { StoresOnly self.old self.new (IsNeededByReference self.old.rules
+        ensures stores { AreNewlyStoredAmong self.old self.new (IsNeededByReference self.old.rules
             self.old.graph (specifier_in self.old module_id) (reference_view dep.now)) }
         ensures only { (s : SymbolBySpecifier) (parts : QualifiedNameParts) (f g : PathForest)
-            → IsForestFoundBySearchWithParts (routes_of_root self.old) s parts f
-            → IsForestFoundBySearchWithParts (routes_of_root self.old) s parts g → f ≡ g }
+            → IsForestFoundBySearchWithParts (search_targets_of_root self.old) s parts f
+            → IsForestFoundBySearchWithParts (search_targets_of_root self.old) s parts g → f ≡ g }
         ensures exports_listed { (start : List ℕ)
             → AreExportListsCorrectAndUnique self.old.graph start }
-        ensures enough { IsStored self.old module_id → WidestLimitsSuffice self.old result }
+        ensures enough { IsStored self.old module_id → IsOnlyOutOfMemoryByWidestLimits self.old result }
     {
         exports_are_listed(self);
         if self.module_from_id(module_id).is_none() {

@@ -10,17 +10,22 @@ mod definition_path;
 mod definition_search;
 mod definition_unresolved;
 mod find_definitions;
+mod follow_decl;
 mod part_target;
 mod path_builder;
 mod path_links;
 mod re_exported_symbol;
 mod replace_definitions;
+mod resume_search;
+mod search_step;
 mod shared_parts;
 mod symbol_dep;
 
 pub use definition::{DeclRef, Definition, DefinitionKind};
 pub use definition_iter::{DefinitionOrUnresolved, DefinitionsIter, DefinitionsOrUnresolvedsIter};
-pub use definition_path::{DefinitionPathLink, DefinitionPathNode, DefinitionPathNodeResolved};
+pub use definition_path::{
+    DefinitionPathLink, DefinitionPathNode, DefinitionPathNodeResolved, OpenedPathNode,
+};
 pub use definition_unresolved::{DefinitionUnresolved, DefinitionUnresolvedKind};
 pub use find_definitions::FindDefinitions;
 pub use symbol_dep::ResolvedSymbolDepEntry;

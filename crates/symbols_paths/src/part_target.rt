@@ -5,19 +5,19 @@ ghost use Rattle.symbols_root.specs.Roots.{RootView, specifier_in};
 ghost use Rattle.symbols_root.specs.Calls.{IsStored};
 ghost use Rattle.symbols_exports.specs.OneName.{find_export};
 ghost use Rattle.symbols_exports.specs.StarStatements.{resolve_specifier};
-ghost use Rattle.symbols_paths.specs.PartTargets.{lacks, exported_part_target, export_of_symbol};
+ghost use Rattle.symbols_paths.specs.PartTargets.{part_is_unresolved, exported_part_target, export_of_symbol};
 ghost use Rattle.symbols_paths.specs.PartTargets.{module_part_target, import_part_target};
 ghost use Rattle.symbols_paths.specs.PartTargets.{part_target_of};
 ghost use Rattle.symbols_paths.specs.Views.{symbol_by_specifier, decl_by_specifier};
 ghost use Rattle.symbols_paths.specs.Views.{definition_by_specifier, reason_view, strings_view};
 ghost use Rattle.symbols_paths.specs.inner.Views.{first_part, later_parts};
-ghost use Rattle.symbols_paths.specs.NeededModules.{StoresOnly};
+ghost use Rattle.symbols_paths.specs.NeededModules.{AreNewlyStoredAmong};
 ghost use Rattle.symbols_paths.specs.inner.Needed.{IsNeededFrom, IsSearchedForExportOf};
 ghost use Rattle.symbols_paths.specs.inner.Needed.{IsSearchedInImport, KeepsOrRefuses};
 ghost use Rattle.symbols_paths.specs.inner.Needed.{IsStarImportDeclared};
 ghost use Rattle.symbols_paths.specs.inner.SearchSteps.{part_target_view, IsPartStored};
 
-use crate::decl_target::{export_of_symbol, is_class_at};
+use crate::decl_target::{export_of_symbol, is_class_decl_at};
 use crate::definition::{DeclRef, Definition, DefinitionKind};
 use crate::definition_unresolved::{DefinitionUnresolved, DefinitionUnresolvedKind};
 use crate::path_links::copied_parts;
@@ -45,7 +45,7 @@ fn missing_part(
     parts: &[String],
 ) -> Result<PartTarget, AllocError>
     ensures view { IfOk result (λ part_target. (root : RootView) → part_target_view root part_target
-        ≡ lacks (record {
+        ≡ part_is_unresolved (record {
           specifier = specifier_in root «module»;
           reason = reason_view kind;
           parts = strings_view parts.now;
@@ -82,7 +82,7 @@ fn exported_part_target(
     if let Some(symbol_id) = export_of_symbol(root, symbol, parts) {
         return Ok(PartTarget::Symbol(UniqueSymbolId::new(module_id, symbol_id)));
     }
-    if parts[0].as_str() == "prototype" && is_class_at(root, module_id, decl) {
+    if parts[0].as_str() == "prototype" && is_class_decl_at(root, module_id, decl) {
         return Ok(PartTarget::Itself);
     }
     let name = String::from_str(root.alloc(), parts[0].as_str())?;
@@ -110,7 +110,7 @@ fn module_part_target(
         (find_export root.old.graph (specifier_in root.old module_id)
         (first_part (strings_view parts.now)))) }
     ensures stored { IfOk result (IsPartStored root.new) }
-    ensures stores { StoresOnly root.old root.new
+    ensures stores { AreNewlyStoredAmong root.old root.new
         (IsSearchedForExportOf root.old module_id (first_part (strings_view parts.now))) }
 {
     match export_of(root, module_id, parts[0].as_str()) {
@@ -143,7 +143,7 @@ pub(crate) fn import_part_target(
         (first_part (strings_view parts.now)) (later_parts (strings_view parts.now))
         (resolve_specifier root.old.graph (specifier_in root.old module_id) specifier_text.now)) }
     ensures stored { IfOk result (IsPartStored root.new) }
-    ensures stores { StoresOnly root.old root.new (IsSearchedInImport root.old module_id
+    ensures stores { AreNewlyStoredAmong root.old root.new (IsSearchedInImport root.old module_id
         specifier_text.now (first_part (strings_view parts.now))) }
 {
     match resolve_specifier(root, module_id, specifier_text) {
@@ -160,7 +160,7 @@ pub(crate) fn import_part_target(
 /// Resolves the first of some parts in a definition of a stored module. For a star import that is a
 /// name that the imported module exports.
 #[inline(never)]
-#[tactic(auto, using(crate::specs::laws::Storing::stores_nothing))]
+#[tactic(auto, using(crate::specs::laws::Storing::newly_stored_none))]
 pub(crate) fn part_target_of(
     root: &mut RootSymbol<'_>,
     definition: &Definition<'_>,
@@ -176,7 +176,7 @@ pub(crate) fn part_target_of(
         (first_part
         (strings_view parts.now)) (later_parts (strings_view parts.now))) }
     ensures stored { IfOk result (IsPartStored root.new) }
-    ensures stores { StoresOnly root.old root.new
+    ensures stores { AreNewlyStoredAmong root.old root.new
         (IsNeededFrom root.old definition.now.«module» (strings_view parts.now)) }
 {
     match definition.kind {

@@ -3,11 +3,11 @@
 ghost use Rattle.std.specs.Prelude.{◌≡◌, ℕ, Some, slice_get, IfOk, IfSome, OnErr};
 ghost use Rattle.std.specs.Option.{option_map};
 ghost use Rattle.symbols_root.specs.Roots.{maybe_specifier, IsStoringFault, specifier_in};
-ghost use Rattle.symbols_root.specs.Calls.{IsStored, KeepsStored};
+ghost use Rattle.symbols_root.specs.Calls.{IsStored, HasGrownAndFailsOnlyFor};
 ghost use Rattle.symbols_exports.specs.StarStatements.{star_specifiers, resolve_specifier};
 ghost use Rattle.symbols_paths.specs.DeclTargets.{re_exported_symbol};
 ghost use Rattle.symbols_paths.specs.inner.Views.{symbol_of_unique_id};
-ghost use Rattle.symbols_paths.specs.NeededModules.{StoresOnly};
+ghost use Rattle.symbols_paths.specs.NeededModules.{AreNewlyStoredAmong};
 ghost use Rattle.symbols_paths.specs.inner.Needed.{IsSearchedAlongStarsOf, KeepsOrRefuses};
 ghost use Rattle.symbols_paths.specs.inner.Needed.{StoresOnlyTarget};
 
@@ -25,7 +25,7 @@ pub(crate) fn resolve_specifier(
     specifier_text: &str,
 ) -> Result<Option<ModuleId>, SymbolsFault>
     requires { IsStored root.old referrer }
-    ensures keeps { KeepsStored root.old root.new (IsStoringFault root.old (resolve_specifier root.old.graph
+    ensures keeps { HasGrownAndFailsOnlyFor root.old root.new (IsStoringFault root.old (resolve_specifier root.old.graph
         (specifier_in root.old referrer) specifier_text.now)) result }
     ensures gives { IfOk result (λ id. option_map (maybe_specifier root.new) id
         ≡ option_map (λ s. Some s) (resolve_specifier root.old.graph
@@ -65,7 +65,7 @@ pub(crate) fn re_exported_symbol(
         ≡ re_exported_symbol root.old.graph name.now (resolve_specifier root.old.graph
         (specifier_in root.old module_id) specifier_text.now)) }
     ensures stored { IfOk result (λ symbol. IfSome symbol (λ s. IsStored root.new s.module_id)) }
-    ensures stores { StoresOnly root.old root.new
+    ensures stores { AreNewlyStoredAmong root.old root.new
         (IsSearchedAlongStarsOf root.old module_id name.now) }
 {
     let target = match resolve_specifier(root, module_id, specifier_text) {

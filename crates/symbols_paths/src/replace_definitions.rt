@@ -1,6 +1,6 @@
 //! Replaces the definitions at the ends of path builders.
 
-ghost use Rattle.std.specs.Prelude.{◌≡◌, ◌++◌, ◌∷◌, [], map, IfOk, OnOk};
+ghost use Rattle.std.specs.Prelude.{◌≡◌, ◌++◌, ◌∷◌, [], map, reverse, IfOk, OnOk};
 ghost use Rattle.std.specs.Option.{option_to_list};
 ghost use Rattle.symbols_root.specs.Roots.{RootView};
 ghost use Rattle.symbols_paths.specs.Views.{definition_by_specifier, path_leaf_of_end};
@@ -19,54 +19,13 @@ ghost use Rattle.symbols_paths.specs.inner.PathBuilders.{modules_of_builders, bu
 
 use crate::definition::Definition;
 use crate::definition_iter::DefinitionOrUnresolved;
-use crate::path_builder::{PathBuilder, Segment, builder_of_end, join_builders, push_with_parts};
+use crate::path_builder::{
+    OpenedBuilder, PathBuilder, Segment, builder_of_end, join_builders, push_with_parts,
+};
 use crate::path_links::push_builder;
 use crate::shared_parts::SharedParts;
 use std::alloc::{AllocError, Global};
 use std::collections::VecDeque;
-
-/// Adds the definitions at the ends of builders, from left to right.
-#[cycle(listing)]
-fn list_definitions<'a>(
-    builders: &[PathBuilder<'a>],
-    found: &mut Vec<Definition<'a>>,
-) -> Result<(), AllocError>
-    ensures view { OnOk result ((root : RootView) → map (definition_by_specifier root) found.new.items
-        ≡ map (definition_by_specifier root) found.old.items
-        ++ definitions_of_forest (built_paths root builders.now)) }
-    ensures stored { OnOk result ((root : RootView)
-        → AreModulesStored root (map module_of_definition found.old.items)
-        → AreModulesStored root (modules_of_builders builders.now)
-        → AreModulesStored root (map module_of_definition found.new.items)) }
-{
-    for builder in builders {
-        list_definition(builder, found)?;
-    }
-    Ok(())
-}
-
-/// Adds the definitions at the ends of a builder, from left to right.
-#[cycle(listing)]
-fn list_definition<'a>(
-    builder: &PathBuilder<'a>,
-    found: &mut Vec<Definition<'a>>,
-) -> Result<(), AllocError>
-    ensures view { OnOk result ((root : RootView) → map (definition_by_specifier root) found.new.items
-        ≡ map (definition_by_specifier root) found.old.items
-        ++ definitions_of_forest (built_path root builder.now)) }
-    ensures stored { OnOk result ((root : RootView)
-        → AreModulesStored root (map module_of_definition found.old.items)
-        → AreModulesStored root (modules_of_builder builder.now)
-        → AreModulesStored root (map module_of_definition found.new.items)) }
-{
-    match builder {
-        PathBuilder::End(_, end) => list_end(end, found),
-        PathBuilder::Fork(_, branches, last) => {
-            list_definitions(branches, found)?;
-            list_definition(last, found)
-        }
-    }
-}
 
 /// Adds an end if it is a definition.
 fn list_end<'a>(
@@ -87,6 +46,56 @@ fn list_end<'a>(
     Ok(())
 }
 
+/// Adds the branches of a fork to the builders still to be visited, the last branch first.
+fn push_branches<'b, 'a>(
+    branches: &'b [PathBuilder<'a>],
+    last: &'b PathBuilder<'a>,
+    stack: &mut Vec<&'b PathBuilder<'a>>,
+) -> Result<(), AllocError>
+    ensures { OnOk result (reverse (map (λ b. b.now) stack.new.items)
+        ≡ branches.now ++ last.now ∷ reverse (map (λ b. b.now) stack.old.items)) }
+{
+    stack.push(last)?;
+    let mut left = branches.len();
+    while left > 0 {
+        left -= 1;
+        stack.push(&branches[left])?;
+    }
+    Ok(())
+}
+
+/// Adds the definitions at the ends of a builder, from left to right. The builders still to be
+/// visited are in `stack`, the next one last.
+fn list_definition<'a>(
+    alloc: Global,
+    builder: &PathBuilder<'a>,
+    found: &mut Vec<Definition<'a>>,
+) -> Result<(), AllocError>
+    ensures view { OnOk result ((root : RootView) → map (definition_by_specifier root) found.new.items
+        ≡ map (definition_by_specifier root) found.old.items
+        ++ definitions_of_forest (built_path root builder.now)) }
+    ensures stored { OnOk result ((root : RootView)
+        → AreModulesStored root (map module_of_definition found.old.items)
+        → AreModulesStored root (modules_of_builder builder.now)
+        → AreModulesStored root (map module_of_definition found.new.items)) }
+{
+    if let PathBuilder::End(_, end) = builder {
+        return list_end(end, found);
+    }
+    let mut stack = Vec::new(alloc);
+    stack.push(builder)?;
+    while let Some(builder) = stack.pop() {
+        match builder {
+            PathBuilder::End(_, end) => list_end(end, found)?,
+            PathBuilder::Fork(_, branches, last) => {
+                push_branches(branches, last, &mut stack)?;
+                continue;
+            }
+        }
+    }
+    Ok(())
+}
+
 /// Returns the definitions at the ends of builders, from left to right.
 pub(crate) fn definitions_among<'a>(
     alloc: Global,
@@ -99,14 +108,24 @@ pub(crate) fn definitions_among<'a>(
         → AreModulesStored root (map module_of_definition found.items)) }
 {
     let mut found = Vec::new(alloc);
-    list_definitions(builders, &mut found)?;
+    for builder in builders {
+        list_definition(alloc, builder, &mut found)?;
+    }
     Ok(found)
+}
+
+/// A fork whose branches are being replaced: its segments, the branches after the one that is being
+/// replaced, the next one last, and what was found before the fork.
+#[derive(Drop)]
+struct OpenFork<'a> {
+    segments: Vec<Segment>,
+    rest: Vec<PathBuilder<'a>>,
+    before: Vec<PathBuilder<'a>>,
 }
 
 /// Replaces the definitions of builders from left to right by those in `changed`, and gives these
 /// parts to all links. A definition whose replacement is `None` is dropped, and so is a builder
-/// that has no end left.
-#[cycle(replacing)]
+/// that has no end left. The innermost of the open forks is the last of `forks`.
 pub(crate) fn replace_definitions<'a>(
     alloc: Global,
     builders: Vec<PathBuilder<'a>>,
@@ -127,45 +146,44 @@ pub(crate) fn replace_definitions<'a>(
         × AreModulesStored root (modules_of_builders (builders_among changed.new.items))) }
 {
     let mut found = Vec::new(alloc);
-    for builder in builders {
-        let builder = replace_in_builder(alloc, builder, parts, changed)?;
-        push_builder(&mut found, builder)?;
-    }
-    Ok(found)
-}
-
-/// Replaces the definitions of one builder in the same way. Returns `None` if no end is left.
-#[cycle(replacing)]
-fn replace_in_builder<'a>(
-    alloc: Global,
-    builder: PathBuilder<'a>,
-    parts: &SharedParts,
-    changed: &mut VecDeque<Option<PathBuilder<'a>>>,
-) -> Result<Option<PathBuilder<'a>>, AllocError>
-    ensures found { IfOk result (λ found. (root : RootView) → built_paths_of_option root found
-        ≡ (rebuilt (remaining_parts parts.now) (built_path root builder.entry)
-        (map (built_paths_of_option root) changed.old.items)).0) }
-    ensures left { OnOk result ((root : RootView)
-        → map (built_paths_of_option root) changed.new.items
-        ≡ (rebuilt (remaining_parts parts.now) (built_path root builder.entry)
-        (map (built_paths_of_option root) changed.old.items)).1) }
-    ensures stored { IfOk result (λ found. (root : RootView)
-        → AreModulesStored root (modules_of_builder builder.entry)
-        → AreModulesStored root (modules_of_builders (builders_among changed.old.items))
-        → AreModulesStored root (modules_of_builders (option_to_list found))
-        × AreModulesStored root (modules_of_builders (builders_among changed.new.items))) }
-{
-    match builder {
-        PathBuilder::End(segments, end) => {
-            let builder = replace_end(alloc, end, changed);
-            with_segments(segments, parts, builder)
-        }
-        PathBuilder::Fork(segments, branches, last) => {
-            let mut next = replace_definitions(alloc, branches, parts, changed)?;
-            let last = replace_in_builder(alloc, Box::into_inner(last), parts, changed)?;
-            push_builder(&mut next, last)?;
-            let whole = join_builders(alloc, next)?;
-            with_segments(segments, parts, whole)
+    let mut rest = builders;
+    rest.reverse();
+    let mut forks: Vec<OpenFork<'a>> = Vec::new(alloc);
+    loop {
+        if let Some(builder) = rest.pop() {
+            match builder.into_opened() {
+                OpenedBuilder::End(segments, end) => {
+                    let end = replace_end(alloc, end, changed);
+                    let builder = with_segments(segments, parts, end)?;
+                    push_builder(&mut found, builder)?;
+                }
+                OpenedBuilder::Fork(segments, branches, last) => {
+                    let mut branches = branches;
+                    branches.push(Box::into_inner(last))?;
+                    branches.reverse();
+                    forks.push(OpenFork {
+                        segments,
+                        rest,
+                        before: found,
+                    })?;
+                    rest = branches;
+                    found = Vec::new(alloc);
+                }
+            }
+        } else {
+            let Some(fork) = forks.pop() else {
+                return Ok(found);
+            };
+            let OpenFork {
+                segments,
+                rest: after,
+                before,
+            } = fork;
+            let whole = join_builders(alloc, found)?;
+            let builder = with_segments(segments, parts, whole)?;
+            rest = after;
+            found = before;
+            push_builder(&mut found, builder)?;
         }
     }
 }

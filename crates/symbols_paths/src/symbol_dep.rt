@@ -14,15 +14,15 @@ ghost use Rattle.symbols_paths.specs.inner.Views.{symbol_of_unique_id, borrowed_
 ghost use Rattle.symbols_paths.specs.inner.Views.{first_part, later_parts};
 ghost use Rattle.symbols_paths.specs.inner.PathBuilders.{remaining_parts, built_paths};
 ghost use Rattle.symbols_paths.specs.inner.PathBuilders.{modules_of_builders};
-ghost use Rattle.symbols_paths.specs.NeededModules.{IsNeededByReference, StoresOnly};
+ghost use Rattle.symbols_paths.specs.NeededModules.{IsNeededByReference, AreNewlyStoredAmong};
 ghost use Rattle.symbols_paths.specs.inner.Needed.{IsNeededFrom, KeepsOrRefuses};
-ghost use Rattle.symbols_paths.specs.Answers.{ArePathsFor};
+ghost use Rattle.symbols_paths.specs.Answers.{AreDefinitionPathsWithAnyParts};
 ghost use Rattle.symbols_paths.specs.DepAnswers.{resolved_dep_entry_view, modules_of_entries};
 ghost use Rattle.symbols_paths.specs.DepAnswers.{path_entries};
-ghost use Rattle.symbols_paths.specs.DepAnswers.{referenced_by_id, referenced_by_part};
-ghost use Rattle.symbols_paths.specs.DepAnswers.{missing_id_path};
-ghost use Rattle.symbols_paths.specs.DepAnswers.{missing_part_path, entries_without_symbol};
-ghost use Rattle.symbols_paths.specs.DepAnswers.{dep_entries_of, IsDepAnswer};
+ghost use Rattle.symbols_paths.specs.DepAnswers.{symbol_referenced_by_id, symbol_referenced_by_part};
+ghost use Rattle.symbols_paths.specs.DepAnswers.{unresolved_id_path};
+ghost use Rattle.symbols_paths.specs.DepAnswers.{unresolved_part_path, entries_of_reference_without_symbol};
+ghost use Rattle.symbols_paths.specs.DepAnswers.{dep_entries_of, AreResolvedEntriesOfReference};
 ghost use Rattle.symbols_paths.specs.inner.DepAnswers.{ArePathsOfReference};
 
 use crate::build_paths::build_paths;
@@ -59,9 +59,9 @@ fn resolve_qualified_name<'a>(
     requires known { IsStored root.old symbol.module_id }
     ensures keeps { KeepsOrRefuses root.old root.new
         (IsNeededFrom root.old symbol.module_id (remaining_parts parts.now)) result }
-    ensures stores { StoresOnly root.old root.new
+    ensures stores { AreNewlyStoredAmong root.old root.new
         (IsNeededFrom root.old symbol.module_id (remaining_parts parts.now)) }
-    ensures found { IfOk result (λ paths. ArePathsFor root.old.rules root.old.graph
+    ensures found { IfOk result (λ paths. AreDefinitionPathsWithAnyParts root.old.rules root.old.graph
         (symbol_of_unique_id root.old symbol) (remaining_parts parts.now)
         (built_paths root.new paths.items)) }
     ensures listed { IfOk result (λ paths. built_paths root.new paths.items
@@ -76,7 +76,7 @@ fn resolve_qualified_name<'a>(
 }
 
 /// Finds the paths of a symbol of a stored module under the parts after the first.
-#[tactic(auto, using(crate::specs::laws::Storing::stores_nothing))]
+#[tactic(auto, using(crate::specs::laws::Storing::newly_stored_none))]
 fn resolve_after_first_part<'a>(
     root: &mut RootSymbol<'a>,
     symbol: UniqueSymbolId,
@@ -86,9 +86,9 @@ fn resolve_after_first_part<'a>(
     requires some { 0 < length (remaining_parts parts.now) }
     ensures keeps { KeepsOrRefuses root.old root.new
         (IsNeededFrom root.old symbol.module_id (later_parts (remaining_parts parts.now))) result }
-    ensures stores { StoresOnly root.old root.new
+    ensures stores { AreNewlyStoredAmong root.old root.new
         (IsNeededFrom root.old symbol.module_id (later_parts (remaining_parts parts.now))) }
-    ensures found { IfOk result (λ paths. ArePathsFor root.old.rules root.old.graph
+    ensures found { IfOk result (λ paths. AreDefinitionPathsWithAnyParts root.old.rules root.old.graph
         (symbol_of_unique_id root.old symbol) (later_parts (remaining_parts parts.now))
         (built_paths root.new paths.items)) }
     ensures listed { IfOk result (λ paths. built_paths root.new paths.items
@@ -126,7 +126,7 @@ pub(crate) fn shared_parts_of(
 
 /// Finds the paths of a name of a stored module under parts. Returns one unresolved end if the name
 /// has no symbol.
-#[tactic(auto, using(crate::specs::laws::Storing::stores_nothing))]
+#[tactic(auto, using(crate::specs::laws::Storing::newly_stored_none))]
 fn go_to_id_and_parts_definition_paths<'a>(
     root: &mut RootSymbol<'a>,
     module_id: ModuleId,
@@ -136,12 +136,12 @@ fn go_to_id_and_parts_definition_paths<'a>(
     requires known { IsStored root.old module_id }
     ensures keeps { KeepsOrRefuses root.old root.new
         (IsNeededFrom root.old module_id (remaining_parts parts.now)) result }
-    ensures stores { StoresOnly root.old root.new
+    ensures stores { AreNewlyStoredAmong root.old root.new
         (IsNeededFrom root.old module_id (remaining_parts parts.now)) }
     ensures found { IfOk result (λ paths. ArePathsOfReference root.old.rules root.old.graph
-        (referenced_by_id root.old.graph (specifier_in root.old module_id) (id_view id.now)
+        (symbol_referenced_by_id root.old.graph (specifier_in root.old module_id) (id_view id.now)
         (remaining_parts parts.now))
-        (missing_id_path (specifier_in root.old module_id) (id_view id.now)
+        (unresolved_id_path (specifier_in root.old module_id) (id_view id.now)
         (remaining_parts parts.now)) (built_paths root.new paths.items)) }
     ensures stored { IfOk result (λ paths. AreModulesStored root.new (modules_of_builders paths.items)) }
 {
@@ -173,15 +173,15 @@ fn resolve_qualified_export_name<'a>(
     ensures keeps { KeepsOrRefuses root.old root.new
         (IsNeededByReference root.old.rules root.old.graph (specifier_in root.old module_id)
         (import_type specifier_text.now (remaining_parts parts.now))) result }
-    ensures stores { StoresOnly root.old root.new
+    ensures stores { AreNewlyStoredAmong root.old root.new
         (IsNeededByReference root.old.rules root.old.graph (specifier_in root.old module_id)
         (import_type specifier_text.now (remaining_parts parts.now))) }
     ensures found { IfOk result (λ paths. ArePathsOfReference root.old.rules root.old.graph
-        (referenced_by_part (later_parts (remaining_parts parts.now))
+        (symbol_referenced_by_part (later_parts (remaining_parts parts.now))
         (import_part_target root.old.graph (specifier_in root.old module_id) specifier_text.now
         (first_part (remaining_parts parts.now)) (later_parts (remaining_parts parts.now))
         (resolve_specifier root.old.graph (specifier_in root.old module_id) specifier_text.now)))
-        (missing_part_path (import_part_target root.old.graph (specifier_in root.old module_id)
+        (unresolved_part_path (import_part_target root.old.graph (specifier_in root.old module_id)
         specifier_text.now (first_part (remaining_parts parts.now))
         (later_parts (remaining_parts parts.now)) (resolve_specifier root.old.graph
         (specifier_in root.old module_id) specifier_text.now))) (built_paths root.new
@@ -207,11 +207,11 @@ fn resolve_import_type<'a>(
     ensures keeps { KeepsOrRefuses root.old root.new
         (IsNeededByReference root.old.rules root.old.graph (specifier_in root.old module_id)
         (import_type specifier_text.now [])) result }
-    ensures stores { StoresOnly root.old root.new
+    ensures stores { AreNewlyStoredAmong root.old root.new
         (IsNeededByReference root.old.rules root.old.graph (specifier_in root.old module_id)
         (import_type specifier_text.now [])) }
     ensures found { IfOk result (λ entries. map (resolved_dep_entry_view root.new) entries.items
-        ≡ entries_without_symbol root.old.graph (specifier_in root.old module_id) (import_type
+        ≡ entries_of_reference_without_symbol root.old.graph (specifier_in root.old module_id) (import_type
         specifier_text.now [])) }
     ensures stored { IfOk result
         (λ entries. AreModulesStored root.new (modules_of_entries entries.items)) }
@@ -277,10 +277,10 @@ pub(crate) fn resolve_id_dep<'a>(
     requires known { IsStored root.old module_id }
     ensures keeps { KeepsOrRefuses root.old root.new
         (IsNeededFrom root.old module_id (remaining_parts parts.now)) result }
-    ensures stores { StoresOnly root.old root.new
+    ensures stores { AreNewlyStoredAmong root.old root.new
         (IsNeededFrom root.old module_id (remaining_parts parts.now)) }
     ensures answers { IfOk result
-        (λ entries. IsDepAnswer root.old.rules root.old.graph (specifier_in root.old module_id)
+        (λ entries. AreResolvedEntriesOfReference root.old.rules root.old.graph (specifier_in root.old module_id)
         (qualified_id (id_view id.now) (remaining_parts parts.now))
         (map (resolved_dep_entry_view root.new) entries.items)) }
     ensures listed { IfOk result (λ entries. map (resolved_dep_entry_view root.new) entries.items
@@ -307,11 +307,11 @@ pub(crate) fn resolve_import_type_dep<'a>(
     ensures keeps { KeepsOrRefuses root.old root.new
         (IsNeededByReference root.old.rules root.old.graph (specifier_in root.old module_id)
         (import_type specifier_text.now (remaining_parts parts.now))) result }
-    ensures stores { StoresOnly root.old root.new
+    ensures stores { AreNewlyStoredAmong root.old root.new
         (IsNeededByReference root.old.rules root.old.graph (specifier_in root.old module_id)
         (import_type specifier_text.now (remaining_parts parts.now))) }
     ensures answers { IfOk result
-        (λ entries. IsDepAnswer root.old.rules root.old.graph (specifier_in root.old module_id)
+        (λ entries. AreResolvedEntriesOfReference root.old.rules root.old.graph (specifier_in root.old module_id)
         (import_type specifier_text.now (remaining_parts parts.now))
         (map (resolved_dep_entry_view root.new) entries.items)) }
     ensures listed { IfOk result (λ entries. map (resolved_dep_entry_view root.new) entries.items

@@ -8,7 +8,7 @@ use Rattle.symbols_root.specs.Roots.{RootView}
 use Rattle.symbols_exports.specs.declared.export_chain.ResolvedExportOrReExportAllPath.{ResolvedExportOrReExportAllPath}
 use Rattle.symbols_exports.specs.declared.export_chain.ResolvedExportOrReExportAllPath.TheVariants.{Export, ReExportAllPath, ReExportAllPath'}
 use Rattle.symbols_exports.specs.declared.export_chain.ResolvedReExportAllPath.{ResolvedReExportAllPath}
-use Rattle.symbols_exports.specs.ExportViews.{AreStatementsStored}
+use Rattle.symbols_exports.specs.ExportViews.{AreReferrersOfStarsStored}
 use Rattle.symbols_paths.specs.declared.definition_path.DefinitionPathLink.{DefinitionPathLink}
 use Rattle.symbols_paths.specs.declared.definition_path.DefinitionPathNode.{DefinitionPathNode, the_lemmas}
 use Rattle.symbols_paths.specs.declared.definition_path.DefinitionPathNode.TheVariants as node
@@ -50,12 +50,12 @@ module _ (root : RootView) where
 
   -- the remaining chain begins with a statement, and has a next part
   pub chain_first : (left : List ResolvedExportOrReExportAllPath) (path : ResolvedExportOrReExportAllPath) (rest : List ResolvedExportOrReExportAllPath)
-      (at : ResolvedReExportAllPath) → left ≡ path ∷ rest → path ≡ ReExportAllPath at → AreStatementsStored root (filter_map first_statement left)
+      (at : ResolvedReExportAllPath) → left ≡ path ∷ rest → path ≡ ReExportAllPath at → AreReferrersOfStarsStored root (filter_map first_statement left)
       → IsKnown at.referrer_module
   chain_first left path rest at is first known =
       let here : left ≡ ReExportAllPath at ∷ rest = is ∙ ap (λ p. p ∷ rest) first in
       All-head KnownStatement (at.referrer_module, at.specifier.now) (filter_map first_statement rest)
-      (subst (λ xs. AreStatementsStored root (filter_map first_statement xs)) here known)
+      (subst (λ xs. AreReferrersOfStarsStored root (filter_map first_statement xs)) here known)
 
   -- the remaining statements
   pub chain_left : (left : List ResolvedExportOrReExportAllPath) (path : ResolvedExportOrReExportAllPath) (rest : List ResolvedExportOrReExportAllPath)
@@ -64,13 +64,13 @@ module _ (root : RootView) where
   chain_left left path rest at is first = ap (filter_map first_statement) (is ∙ ap (λ p. p ∷ rest) first)
 
   after_first_part : (path : ResolvedExportOrReExportAllPath) (rest : List ResolvedExportOrReExportAllPath)
-      → AreStatementsStored root (filter_map first_statement (path ∷ rest)) → AreStatementsStored root (filter_map first_statement rest)
+      → AreReferrersOfStarsStored root (filter_map first_statement (path ∷ rest)) → AreReferrersOfStarsStored root (filter_map first_statement rest)
   after_first_part (Export export) rest known = known
   after_first_part (ReExportAllPath' referrer text p next) rest known = All-tail KnownStatement (referrer, text.now) (filter_map first_statement rest) known
 
   pub chain_rest : (left : List ResolvedExportOrReExportAllPath) (path : ResolvedExportOrReExportAllPath) (rest : List ResolvedExportOrReExportAllPath)
-      → left ≡ path ∷ rest → AreStatementsStored root (filter_map first_statement left) → AreStatementsStored root (filter_map first_statement rest)
-  chain_rest left path rest is known = after_first_part path rest (subst (λ xs. AreStatementsStored root (filter_map first_statement xs)) is known)
+      → left ≡ path ∷ rest → AreReferrersOfStarsStored root (filter_map first_statement left) → AreReferrersOfStarsStored root (filter_map first_statement rest)
+  chain_rest left path rest is known = after_first_part path rest (subst (λ xs. AreReferrersOfStarsStored root (filter_map first_statement xs)) is known)
 
   -- ---- lists of values that name several modules
 

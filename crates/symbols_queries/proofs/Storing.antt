@@ -13,13 +13,14 @@ use Rattle.symbols_root.specs.Growing.{HasGrown}
 use Rattle.symbols_root.specs.Specifiers.{contains_specifier}
 use Rattle.symbols_root.specs.Roots.{RootView, with_stored_module, with_stored_modules, specifier_in}
 use Rattle.symbols_root.specs.laws.Growing.{has_grown_by_stored_modules}
-use Rattle.symbols_exports.specs.ExportAnswers.{IsExportsAnswer}
+use Rattle.symbols_exports.specs.ExportAnswers.{IsExportsCallResult}
 use Rattle.symbols_exports.specs.Chains.{IsReachedByStars, AreReachedByStars}
 use Rattle.symbols_exports.specs.StarStatements.{star_targets_of}
 use Rattle.symbols_exports.specs.SharedNames.{NameWithExporters}
-use Rattle.symbols_exports.specs.SharedNameLists.{shared_name_view_of_resolved, AreExportersStored}
+use Rattle.symbols_exports.specs.SharedNameLists.{shared_name_view_of_resolved, AreExporterModulesStored}
 use Rattle.symbols_exports.specs.CollectedNames.{ResolvedExportView}
-use Rattle.symbols_exports.specs.ExportViews.{export_by_specifier, star_statement_by_specifier, AreStatementsStored, IsExportStored, AreExportsStored}
+use Rattle.symbols_exports.specs.ExportViews.{export_by_specifier, star_statement_by_specifier, AreReferrersOfStarsStored, AreModulesOfExportStored}
+use Rattle.symbols_exports.specs.ExportViews.{AreModulesOfExportsStored}
 use Rattle.symbols_answers.specs.Answers.{answer_exports}
 use Rattle.symbols_answers.specs.QueryAnswers.{some_if_strict}
 use Rattle.symbols_answers.specs.Stored.{star_referrer, modules_of_export, modules_of_shared_name, modules_of_shared_names, modules_of_answer}
@@ -80,13 +81,13 @@ reached_stored old new module_id reached same are_reached stored end chain_ends_
 
 pub reached_there : (old new : RootView) (module_id : ModuleId) (names : List ResolvedExportView) (shared : List (NameWithExporters ResolvedExportView))
     (unresolved : List (ModuleId
-    × List ℕ)) (steps : ℕ) → new.graph ≡ old.graph → IsExportsAnswer old new module_id names shared unresolved steps → (end : List ℕ)
+    × List ℕ)) (steps : ℕ) → new.graph ≡ old.graph → IsExportsCallResult old new module_id names shared unresolved steps → (end : List ℕ)
     → IsReachedByStars (star_targets_of new.graph) (specifier_in old module_id) end → Contains new.stored end
 reached_there old new module_id names shared unresolved steps same is end chain_ends_at =
     reached_stored old new module_id is.reached same is.are_reached is.stored end chain_ends_at
 
 -- the modules that statements and exports name are stored
-statements_there : (root : RootView) (statements : List (ModuleId × List ℕ)) → AreStatementsStored root statements
+statements_there : (root : RootView) (statements : List (ModuleId × List ℕ)) → AreReferrersOfStarsStored root statements
     → All (Contains root.stored) (map star_referrer (map (star_statement_by_specifier root) statements))
 statements_there root [] numbered = All-nil (Contains root.stored)
 statements_there root (statement ∷ rest) numbered =
@@ -94,35 +95,36 @@ statements_there root (statement ∷ rest) numbered =
     All-cons (Contains root.stored) (specifier_in root statement.0) (map star_referrer (map (star_statement_by_specifier root) rest))
     (number_stored root statement.0 (All-head known statement rest numbered)) (statements_there root rest (All-tail known statement rest numbered))
 
-names_there : (root : RootView) (names : List ResolvedExportView) → AreExportsStored root names
+names_there : (root : RootView) (names : List ResolvedExportView) → AreModulesOfExportsStored root names
     → All (Contains root.stored) (flat_map modules_of_export (map (export_by_specifier root) names))
 names_there root [] numbered = All-nil (Contains root.stored)
 names_there root (name ∷ rest) numbered =
-    let is = All-head (IsExportStored root) name rest numbered in
+    let is = All-head (AreModulesOfExportStored root) name rest numbered in
     let first =
     All-cons (Contains root.stored) (specifier_in root name.export.«module») (map star_referrer (map (star_statement_by_specifier root) name.statements))
     (number_stored root name.export.«module» is.export_is_stored) (statements_there root name.statements is.statements_are_stored) in
     All-append (Contains root.stored) (modules_of_export (export_by_specifier root name)) (flat_map modules_of_export (map (export_by_specifier root) rest))
     first
-    (names_there root rest (All-tail (IsExportStored root) name rest numbered))
+    (names_there root rest (All-tail (AreModulesOfExportStored root) name rest numbered))
 
-shared_there : (root : RootView) (shared : List (NameWithExporters ResolvedExportView)) → AreExportersStored root shared
+shared_there : (root : RootView) (shared : List (NameWithExporters ResolvedExportView)) → AreExporterModulesStored root shared
     → All (Contains root.stored) (flat_map modules_of_shared_name (map (shared_name_view_of_resolved root) shared))
 shared_there root [] numbered = All-nil (Contains root.stored)
 shared_there root (name ∷ rest) numbered =
     All-append (Contains root.stored) (modules_of_shared_name (shared_name_view_of_resolved root name))
     (flat_map modules_of_shared_name (map (shared_name_view_of_resolved root) rest))
-    (names_there root name.exporters (All-head (λ (shared : NameWithExporters ResolvedExportView). AreExportsStored root shared.exporters) name rest numbered))
-    (shared_there root rest (All-tail (λ (shared : NameWithExporters ResolvedExportView). AreExportsStored root shared.exporters) name rest numbered))
+    (names_there root name.exporters (All-head (λ (shared : NameWithExporters ResolvedExportView). AreModulesOfExportsStored root shared.exporters) name rest
+    numbered))
+    (shared_there root rest (All-tail (λ (shared : NameWithExporters ResolvedExportView). AreModulesOfExportsStored root shared.exporters) name rest numbered))
 
-sharing_there : (root : RootView) (rules : Rules) (shared : List (NameWithExporters ResolvedExportView)) → AreExportersStored root shared
+sharing_there : (root : RootView) (rules : Rules) (shared : List (NameWithExporters ResolvedExportView)) → AreExporterModulesStored root shared
     → All (Contains root.stored) (modules_of_shared_names (some_if_strict rules (map (shared_name_view_of_resolved root) shared)))
 sharing_there root Deno shared numbered = All-nil (Contains root.stored)
 sharing_there root Strict shared numbered = shared_there root shared numbered
 
 pub exports_there : (root : RootView) (rules : Rules) (names : List ResolvedExportView) (shared : List (NameWithExporters ResolvedExportView))
     (unresolved : List (ModuleId × List ℕ))
-    → AreExportsStored root names → AreExportersStored root shared → AreStatementsStored root unresolved
+    → AreModulesOfExportsStored root names → AreExporterModulesStored root shared → AreReferrersOfStarsStored root unresolved
     → All (Contains root.stored) (modules_of_answer
     (answer_exports (map (export_by_specifier root) names) (some_if_strict rules (map (shared_name_view_of_resolved root) shared))
     (map (star_statement_by_specifier root) unresolved)))

@@ -1,10 +1,11 @@
 -- The answers of the library, as the definitions see them.
 use Rattle.std.specs.Prelude.{ℕ, List, map, Vec, string_bytes}
+use Rattle.std.specs.Cow.{cow_str_bytes}
 use Rattle.std.specs.Option.{option_map}
 use Rattle.std.specs.Global.{Global}
 use Rattle.symbols_nodes.specs.declared.deps.dep.ReferenceNamespace.{ReferenceNamespace}
 use Rattle.symbols_nodes.specs.declared.deps.dep.SymbolNodeDep.{SymbolNodeDep}
-use Rattle.symbols_nodes.specs.References.{SymbolDependency, dependency_view}
+use Rattle.symbols_nodes.specs.References.{NamespacedReference, namespaced_reference_view}
 use Rattle.symbols_exports.specs.PublicNames.{public_name_view}
 use Rattle.symbols_exports.specs.SharedNames.{NameWithExporters}
 use Rattle.symbols_exports.specs.ExportViews.{ExportView, StarStatementView}
@@ -13,8 +14,11 @@ use Rattle.symbols_paths.specs.PathTrees.{DeclBySpecifier, DefinitionView, Unres
 use Rattle.symbols_paths.specs.Views.{star_import_view, reason_view, strings_view, forest_of_trees}
 use Rattle.symbols_paths.specs.DepAnswers.{DepEntryView, path_dep_entry, module_dep_entry}
 use Rattle.symbols_answers.specs.Answers.{AnswerView, answer_no_module, answer_module, answer_exports, answer_names, answer_symbol}
-use Rattle.symbols_answers.specs.Answers.{answer_name, answer_deps, answer_paths, answer_definitions, answer_leaves, answer_resolve}
+use Rattle.symbols_answers.specs.Answers.{answer_name, answer_deps, answer_paths, answer_definitions, answer_leaves, answer_resolve, answer_inputs}
+use Rattle.symbols_answers.specs.Inputs.{FoundView, found_module, found_redirect, found_absent, InputView}
 use Rattle.symbols_queries.specs.declared.answer.Answer.{Answer}
+use Rattle.symbols_queries.specs.declared.inputs.Found.{Found}
+use Rattle.symbols_queries.specs.declared.inputs.QueryInput.{QueryInput}
 use Rattle.symbols_queries.specs.declared.exports_by_specifier.ExportBySpecifier.{ExportBySpecifier}
 use Rattle.symbols_queries.specs.declared.exports_by_specifier.StarStatementBySpecifier.{StarStatementBySpecifier}
 use Rattle.symbols_queries.specs.declared.shared_name_by_specifier.ExporterBySpecifier.{ExporterBySpecifier}
@@ -54,8 +58,8 @@ shared_names_view shared = map shared_name_view shared.items
 
 -- ---- dependencies
 
-abbrev pub deps_view : Vec (SymbolNodeDep × ReferenceNamespace) Global → List SymbolDependency
-deps_view deps = map dependency_view deps.items
+abbrev pub deps_view : Vec (SymbolNodeDep × ReferenceNamespace) Global → List NamespacedReference
+deps_view deps = map namespaced_reference_view deps.items
 
 -- ---- paths
 
@@ -69,20 +73,20 @@ abbrev pub unresolved_by_specifier_view : UnresolvedBySpecifier → UnresolvedEn
 unresolved_by_specifier_view x = record { specifier = x.«module».now; reason = reason_view x.kind; parts = strings_view x.parts.items }
 
 -- a step of a path, with the trees of the next steps in place
-abbrev pub path_fold_step : open_path.PathBySpecifier-F PathTree PathTree → PathTree
-path_fold_step (open_path.Link t) = t
-path_fold_step (open_path.Definition x) = leaf (definition (definition_by_specifier_view x))
-path_fold_step (open_path.Unresolved x) = leaf (unresolved (unresolved_by_specifier_view x))
+abbrev pub fold_path_by_specifier_to_tree : open_path.PathBySpecifier-F PathTree PathTree → PathTree
+fold_path_by_specifier_to_tree (open_path.Link t) = t
+fold_path_by_specifier_to_tree (open_path.Definition x) = leaf (definition (definition_by_specifier_view x))
+fold_path_by_specifier_to_tree (open_path.Unresolved x) = leaf (unresolved (unresolved_by_specifier_view x))
 
-abbrev pub link_fold_step : PathLinkBySpecifier-F PathTree PathTree → PathTree
-link_fold_step x = link (record {
+abbrev pub fold_link_by_specifier_to_tree : PathLinkBySpecifier-F PathTree PathTree → PathTree
+fold_link_by_specifier_to_tree x = link (record {
   symbol = record { specifier = x.«module».now; number = x.symbol };
   decl = decl_with_specifier x.«module».now x.decl;
   parts = strings_view x.parts.items;
 }) (forest_of_trees x.next.items)
 
 abbrev pub path_tree_view : PathBySpecifier → PathTree
-path_tree_view = fold-PathBySpecifier PathTree PathTree path_fold_step link_fold_step
+path_tree_view = fold-PathBySpecifier PathTree PathTree fold_path_by_specifier_to_tree fold_link_by_specifier_to_tree
 
 abbrev pub path_forest_view : List PathBySpecifier → PathForest
 path_forest_view paths = forest_of_trees (map path_tree_view paths)
@@ -94,6 +98,16 @@ path_end_view (PathEndBySpecifier.Unresolved x) = unresolved (unresolved_by_spec
 abbrev pub dep_entry_view : DepEntryBySpecifier → DepEntryView
 dep_entry_view (DepEntryBySpecifier.Path path) = path_dep_entry (path_tree_view path)
 dep_entry_view (DepEntryBySpecifier.ImportType specifier) = module_dep_entry specifier.now
+
+-- ---- inputs
+
+abbrev pub found_view : Found → FoundView
+found_view Found.Module = found_module
+found_view (Found.Redirect specifier) = found_redirect specifier.now
+found_view Found.Absent = found_absent
+
+abbrev pub input_view : QueryInput → InputView
+input_view input = record { specifier = cow_str_bytes input.specifier; found = found_view input.found }
 
 -- ---- answers
 
@@ -110,3 +124,4 @@ answer_view (Answer.Paths paths) = answer_paths (path_forest_view paths.items)
 answer_view (Answer.Definitions definitions) = answer_definitions (map definition_by_specifier_view definitions.items)
 answer_view (Answer.Leaves leaves) = answer_leaves (map path_end_view leaves.items)
 answer_view (Answer.Resolve entries) = answer_resolve (map dep_entry_view entries.items)
+answer_view (Answer.Inputs inputs) = answer_inputs (map input_view inputs.items)

@@ -10,39 +10,48 @@ use Rattle.symbols_root.specs.Roots.{RootView, with_stored_module, IsStoringFaul
 use Rattle.symbols_exports.specs.Chains.{IsReachedByStars}
 use Rattle.symbols_exports.specs.StarStatements.{star_targets_of}
 use Rattle.symbols_root.specs.Growing.{HasGrown}
-use Rattle.symbols_paths.specs.NeededModules.{IsModuleNeeded, IsNeededByReference, StoresOnly}
+use Rattle.symbols_paths.specs.NeededModules.{IsModuleNeededBySearch, IsNeededByReference, AreNewlyStoredAmong}
 use Rattle.symbols_answers.specs.Questions.{QuestionView, query_module, query_exports, query_names, query_symbol, query_name}
-use Rattle.symbols_answers.specs.Questions.{query_deps, query_paths, query_definitions, query_leaves, query_resolve, QueryView}
+use Rattle.symbols_answers.specs.Questions.{query_deps, query_paths, query_definitions, query_leaves, query_resolve, QueryForm, for_answer, for_inputs, QueryView}
 use Rattle.symbols_answers.specs.Answers.{AnswerView}
 use Rattle.symbols_answers.specs.QueryAnswers.{query_answer}
+use Rattle.symbols_answers.specs.QueryReach.{IsRequestedByQuery}
 use Rattle.symbols_answers.specs.Stored.{AreQueryModulesStored}
 
 -- the other modules that a question on a module may need: for its exports and public names the reachable ones, for definitions and
 -- references those of the search
-abbrev pub IsNeededByQuestion : Rules → GraphView → List ℕ → QuestionView → List ℕ → Type 0
-IsNeededByQuestion rules graph specifier query_module v = ⊥
-IsNeededByQuestion rules graph specifier query_exports v = IsReachedByStars (star_targets_of graph) specifier v
-IsNeededByQuestion rules graph specifier query_names v = IsReachedByStars (star_targets_of graph) specifier v
-IsNeededByQuestion rules graph specifier (query_symbol name) v = ⊥
-IsNeededByQuestion rules graph specifier (query_name s) v = ⊥
-IsNeededByQuestion rules graph specifier (query_deps s mode) v = ⊥
-IsNeededByQuestion rules graph specifier (query_paths s) v = IsModuleNeeded rules graph specifier [] v
-IsNeededByQuestion rules graph specifier (query_definitions s) v = IsModuleNeeded rules graph specifier [] v
-IsNeededByQuestion rules graph specifier (query_leaves s) v = IsModuleNeeded rules graph specifier [] v
-IsNeededByQuestion rules graph specifier (query_resolve reference) v = IsNeededByReference rules graph specifier reference v
+abbrev pub IsOtherModuleNeededByQuestion : Rules → GraphView → List ℕ → QuestionView → List ℕ → Type 0
+IsOtherModuleNeededByQuestion rules graph specifier query_module v = ⊥
+IsOtherModuleNeededByQuestion rules graph specifier query_exports v = IsReachedByStars (star_targets_of graph) specifier v
+IsOtherModuleNeededByQuestion rules graph specifier query_names v = IsReachedByStars (star_targets_of graph) specifier v
+IsOtherModuleNeededByQuestion rules graph specifier (query_symbol name) v = ⊥
+IsOtherModuleNeededByQuestion rules graph specifier (query_name s) v = ⊥
+IsOtherModuleNeededByQuestion rules graph specifier (query_deps s mode) v = ⊥
+IsOtherModuleNeededByQuestion rules graph specifier (query_paths s) v = IsModuleNeededBySearch rules graph specifier [] v
+IsOtherModuleNeededByQuestion rules graph specifier (query_definitions s) v = IsModuleNeededBySearch rules graph specifier [] v
+IsOtherModuleNeededByQuestion rules graph specifier (query_leaves s) v = IsModuleNeededBySearch rules graph specifier [] v
+IsOtherModuleNeededByQuestion rules graph specifier (query_resolve reference) v = IsNeededByReference rules graph specifier reference v
+
+-- the modules that the inputs of a query need: those that the specifiers which it requests resolve to
+abbrev pub IsNeededForInputs : GraphView → QueryView → List ℕ → Type 0
+IsNeededForInputs graph query v = (key : List ℕ) × IsRequestedByQuery graph query key × (resolved_module_specifier graph key ≡ Some v)
 
 -- the modules that a query may need besides the one that its specifier resolves to
-abbrev pub IsNeededByQuery : Rules → GraphView → QueryView → List ℕ → Type 0
-IsNeededByQuery rules graph query v = (specifier : List ℕ) × (resolved_module_specifier graph query.specifier ≡ Some specifier)
-    × IsNeededByQuestion rules graph specifier query.question v
+abbrev pub IsNeededInForm : QueryForm → Rules → GraphView → QueryView → List ℕ → Type 0
+IsNeededInForm for_answer rules graph query v = (specifier : List ℕ) × (resolved_module_specifier graph query.specifier ≡ Some specifier)
+    × IsOtherModuleNeededByQuestion rules graph specifier query.question v
+IsNeededInForm for_inputs rules graph query v = IsNeededForInputs graph query v
+
+abbrev pub IsOtherModuleNeededByQuery : Rules → GraphView → QueryView → List ℕ → Type 0
+IsOtherModuleNeededByQuery rules graph query v = IsNeededInForm query.form rules graph query v
 
 -- the modules that a query may store: the one that its specifier resolves to, and those that it may need besides
-abbrev pub IsStoredForQuery : Rules → GraphView → QueryView → List ℕ → Type 0
-IsStoredForQuery rules graph query v = (resolved_module_specifier graph query.specifier ≡ Some v) ⊎ IsNeededByQuery rules graph query v
+abbrev pub CanBeStoredByQuery : Rules → GraphView → QueryView → List ℕ → Type 0
+CanBeStoredByQuery rules graph query v = (resolved_module_specifier graph query.specifier ≡ Some v) ⊎ IsOtherModuleNeededByQuery rules graph query v
 
 -- the modules that one of some queries may store
-abbrev pub IsStoredForQueries : Rules → GraphView → List QueryView → List ℕ → Type 0
-IsStoredForQueries rules graph queries v = (query : QueryView) × Contains queries query × IsStoredForQuery rules graph query v
+abbrev pub CanBeStoredByQueries : Rules → GraphView → List QueryView → List ℕ → Type 0
+CanBeStoredByQueries rules graph queries v = (query : QueryView) × Contains queries query × CanBeStoredByQuery rules graph query v
 
 -- the queried module has no such symbol: it alone is stored, if it wasn't
 pub record IsUnknownSymbolQueryFault (old new : RootView) (query : QueryView) (fault : SymbolsFault) : Type 0 where
@@ -58,39 +67,42 @@ pub record IsQueriedModuleRefused (old new : RootView) (query : QueryView) (faul
 
 -- the query has an answer, and the queried module is stored; another module that may be needed is refused, or an allocation failed. Besides
 -- the queried module only such as may be needed are newly stored
-pub record IsModuleForQueryRefused (old new : RootView) (query : QueryView) (fault : SymbolsFault) : Type 0 where
+pub record IsOtherNeededModuleRefused (old new : RootView) (query : QueryView) (fault : SymbolsFault) : Type 0 where
   pub has_answer : query_answer old.rules old.graph query ≢ None
   pub stored : HasGrown (with_stored_module old (resolved_module_specifier old.graph query.specifier)) new
-  pub only : StoresOnly (with_stored_module old (resolved_module_specifier old.graph query.specifier)) new (IsNeededByQuery old.rules old.graph query)
+  pub are_newly_stored_for_queries : AreNewlyStoredAmong (with_stored_module old (resolved_module_specifier old.graph query.specifier)) new
+      (IsOtherModuleNeededByQuery old.rules old.graph query)
   pub needed : Option (List ℕ)
-  pub is_needed : (v : List ℕ) → needed ≡ Some v → IsNeededByQuery old.rules old.graph query v
+  pub is_needed : (v : List ℕ) → needed ≡ Some v → IsOtherModuleNeededByQuery old.rules old.graph query v
   pub refused : IsStoringFault new needed fault
 
 -- why a query fails: one of these
 abbrev pub IsQueryFault : RootView → RootView → QueryView → SymbolsFault → Type 0
-IsQueryFault old new query fault = IsUnknownSymbolQueryFault old new query fault ⊎ IsQueriedModuleRefused old new query fault ⊎ IsModuleForQueryRefused old new
+IsQueryFault old new query fault = IsUnknownSymbolQueryFault old new query fault ⊎ IsQueriedModuleRefused old new query fault
+    ⊎ IsOtherNeededModuleRefused old new
     query fault
 
 -- a query is answered: it has an answer, and the modules that it needs are stored
-abbrev pub IsQueryAnswered : RootView → QueryView → Type 0
-IsQueryAnswered root query = (answer : AnswerView) × (query_answer root.rules root.graph query ≡ Some answer) × AreQueryModulesStored root query answer
+abbrev pub HasAnswerWithModulesStored : RootView → QueryView → Type 0
+HasAnswerWithModulesStored root query = (answer : AnswerView) × (query_answer root.rules root.graph query ≡ Some answer)
+    × AreQueryModulesStored root query answer
 
 -- the query is answered, and an allocation failed for the list of answers
-pub record IsAnswerLost (old new : RootView) (query : QueryView) (fault : SymbolsFault) : Type 0 where
+pub record IsOutOfMemoryAfterAnswer (old new : RootView) (query : QueryView) (fault : SymbolsFault) : Type 0 where
   pub fault_is : fault ≡ OutOfMemory
-  pub answered : IsQueryAnswered new query
+  pub answered : HasAnswerWithModulesStored new query
   pub grown : HasGrown old new
-  pub only : StoresOnly old new (IsStoredForQuery old.rules old.graph query)
+  pub are_newly_stored_for_queries : AreNewlyStoredAmong old new (CanBeStoredByQuery old.rules old.graph query)
 
 -- why a list of queries fails: those before one are answered, in a root that has stored what they need, and newly stored only what they may
 -- store; from that root on this one fails, or its answer is lost
 pub record IsQueryListFault (old new : RootView) (queries : List QueryView) (fault : SymbolsFault) : Type 0 where
-  pub before : List QueryView
+  pub queries_before : List QueryView
   pub query : QueryView
-  pub later : List QueryView
-  pub are : queries ≡ before ++ query ∷ later
-  pub between : RootView
-  pub grown : HasGrown old between
-  pub only : StoresOnly old between (IsStoredForQueries old.rules old.graph before)
-  pub answered : All (IsQueryAnswered between) before
-  pub fails : IsQueryFault between new query fault ⊎ IsAnswerLost between new query fault
+  pub queries_after : List QueryView
+  pub queries_are_split : queries ≡ queries_before ++ query ∷ queries_after
+  pub root_between : RootView
+  pub grown : HasGrown old root_between
+  pub are_newly_stored_for_queries : AreNewlyStoredAmong old root_between (CanBeStoredByQueries old.rules old.graph queries_before)
+  pub answered : All (HasAnswerWithModulesStored root_between) queries_before
+  pub query_fails_or_loses_answer : IsQueryFault root_between new query fault ⊎ IsOutOfMemoryAfterAnswer root_between new query fault

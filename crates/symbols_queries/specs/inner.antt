@@ -2,3 +2,4 @@
 pub mod AnswerViews
 pub mod QueryFaults
 pub mod Given
+pub mod SpecifierLists

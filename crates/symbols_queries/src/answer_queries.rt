@@ -8,31 +8,34 @@ ghost use Rattle.symbols_table.specs.declared.info.fault.SymbolsFault.TheVariant
 ghost use Rattle.symbols_table.specs.declared.info.fault.SymbolsFault.TheVariants.{UnknownSymbol};
 ghost use Rattle.symbols_root.specs.Roots.{widest_limits, specifier_in};
 ghost use Rattle.symbols_root.specs.Growing.{HasGrown};
-ghost use Rattle.symbols_root.specs.Calls.{IsStored, KeepsStored};
+ghost use Rattle.symbols_root.specs.Calls.{IsStored, HasGrownAndFailsOnlyFor};
 ghost use Rattle.symbols_exports.specs.ExportAnswers.{AreExportListsCorrectAndUnique};
-ghost use Rattle.symbols_paths.specs.NeededModules.{StoresOnly};
+ghost use Rattle.symbols_paths.specs.NeededModules.{AreNewlyStoredAmong};
 ghost use Rattle.symbols_answers.specs.Questions.{query_exports, query_names, query_name};
 ghost use Rattle.symbols_answers.specs.Questions.{query_deps};
 ghost use Rattle.symbols_answers.specs.Questions.{query_paths, query_definitions, query_leaves};
-ghost use Rattle.symbols_answers.specs.Questions.{query_resolve};
+ghost use Rattle.symbols_answers.specs.Questions.{query_resolve, for_answer};
 ghost use Rattle.symbols_answers.specs.QueryAnswers.{query_answer};
 ghost use Rattle.symbols_answers.specs.Meanings.{IsAnswerToQuery};
 ghost use Rattle.symbols_answers.specs.Stored.{AreQueryModulesStored};
-ghost use Rattle.symbols_queries.specs.Queries.{query_view};
+ghost use Rattle.symbols_queries.specs.Queries.{query_view, query_of_inputs};
 ghost use Rattle.symbols_queries.specs.AnswerViews.{answer_view};
 ghost use Rattle.symbols_queries.specs.inner.Given.{IsQuestionAnswerReturned};
+ghost use Rattle.symbols_queries.specs.inner.Given.{IsQueryAnswerReturned};
+ghost use Rattle.symbols_queries.specs.inner.SpecifierLists.{KeepsForInputs};
 ghost use Rattle.symbols_queries.specs.QueryFaults.{IsQueryFault, IsQueryListFault};
-ghost use Rattle.symbols_queries.specs.QueryFaults.{IsNeededByQuestion, IsStoredForQuery};
-ghost use Rattle.symbols_queries.specs.QueryFaults.{IsStoredForQueries};
+ghost use Rattle.symbols_queries.specs.QueryFaults.{IsOtherModuleNeededByQuestion, CanBeStoredByQuery};
+ghost use Rattle.symbols_queries.specs.QueryFaults.{CanBeStoredByQueries};
 ghost use Rattle.symbols_queries.specs.inner.QueryFaults.{IsQuestionFault, IsQuestionOutcome};
 
 use crate::answer::Answer;
 use crate::decl_deps::symbol_deps;
 use crate::exports_by_specifier::exports_by_specifier;
+use crate::inputs::inputs;
 use crate::paths_by_specifier::{
     definitions_by_specifier, entries_by_specifier, path_ends_by_specifier, paths_by_specifier,
 };
-use crate::query::Query;
+use crate::query::{InputsOf, Query};
 use symbols_deps::laws::dependencies_are_listed;
 use symbols_exports::laws::exports_are_listed;
 use symbols_exports::{exports, public_names};
@@ -48,9 +51,9 @@ fn exports_answer<'a>(
     module_id: ModuleId,
 ) -> Result<Answer<'a>, SymbolsFault>
     requires { IsStored root.old module_id }
-    ensures keeps { KeepsStored root.old root.new
+    ensures keeps { HasGrownAndFailsOnlyFor root.old root.new
         (IsQuestionFault root.old root.new (specifier_in root.old module_id) query_exports) result }
-    ensures stores { StoresOnly root.old root.new (IsNeededByQuestion root.old.rules root.old.graph
+    ensures stores { AreNewlyStoredAmong root.old root.new (IsOtherModuleNeededByQuestion root.old.rules root.old.graph
         (specifier_in root.old module_id) query_exports) }
     ensures given { IfOk result (λ answer. IsQuestionAnswerReturned root.old root.new
         (specifier_in root.old module_id) query_exports (answer_view answer)) }
@@ -67,9 +70,9 @@ fn names_answer<'a>(
     module_id: ModuleId,
 ) -> Result<Answer<'a>, SymbolsFault>
     requires { IsStored root.old module_id }
-    ensures keeps { KeepsStored root.old root.new
+    ensures keeps { HasGrownAndFailsOnlyFor root.old root.new
         (IsQuestionFault root.old root.new (specifier_in root.old module_id) query_names) result }
-    ensures stores { StoresOnly root.old root.new (IsNeededByQuestion root.old.rules root.old.graph
+    ensures stores { AreNewlyStoredAmong root.old root.new (IsOtherModuleNeededByQuestion root.old.rules root.old.graph
         (specifier_in root.old module_id) query_names) }
     ensures given { IfOk result (λ answer. IsQuestionAnswerReturned root.old root.new
         (specifier_in root.old module_id) query_names (answer_view answer)) }
@@ -135,7 +138,7 @@ fn paths_answer<'a>(
     requires { IsStored root.old module_id }
     ensures keeps { IsQuestionOutcome root.old root.new (IsQuestionFault root.old root.new
         (specifier_in root.old module_id) (query_paths symbol)) result }
-    ensures stores { StoresOnly root.old root.new (IsNeededByQuestion root.old.rules root.old.graph
+    ensures stores { AreNewlyStoredAmong root.old root.new (IsOtherModuleNeededByQuestion root.old.rules root.old.graph
         (specifier_in root.old module_id) (query_paths symbol)) }
     ensures given { IfOk result (λ answer. IsQuestionAnswerReturned root.old root.new
         (specifier_in root.old module_id) (query_paths symbol) (answer_view answer)) }
@@ -155,7 +158,7 @@ fn definitions_answer<'a>(
     requires { IsStored root.old module_id }
     ensures keeps { IsQuestionOutcome root.old root.new (IsQuestionFault root.old root.new
         (specifier_in root.old module_id) (query_definitions symbol)) result }
-    ensures stores { StoresOnly root.old root.new (IsNeededByQuestion root.old.rules root.old.graph
+    ensures stores { AreNewlyStoredAmong root.old root.new (IsOtherModuleNeededByQuestion root.old.rules root.old.graph
         (specifier_in root.old module_id) (query_definitions symbol)) }
     ensures given { IfOk result (λ answer. IsQuestionAnswerReturned root.old root.new
         (specifier_in root.old module_id) (query_definitions symbol) (answer_view answer)) }
@@ -178,7 +181,7 @@ fn leaves_answer<'a>(
     requires { IsStored root.old module_id }
     ensures keeps { IsQuestionOutcome root.old root.new (IsQuestionFault root.old root.new
         (specifier_in root.old module_id) (query_leaves symbol)) result }
-    ensures stores { StoresOnly root.old root.new (IsNeededByQuestion root.old.rules root.old.graph
+    ensures stores { AreNewlyStoredAmong root.old root.new (IsOtherModuleNeededByQuestion root.old.rules root.old.graph
         (specifier_in root.old module_id) (query_leaves symbol)) }
     ensures given { IfOk result (λ answer. IsQuestionAnswerReturned root.old root.new
         (specifier_in root.old module_id) (query_leaves symbol) (answer_view answer)) }
@@ -196,10 +199,10 @@ fn entries_answer<'a>(
     dep: &SymbolNodeDep<'_>,
 ) -> Result<Answer<'a>, SymbolsFault>
     requires { IsStored root.old module_id }
-    ensures keeps { KeepsStored root.old root.new
+    ensures keeps { HasGrownAndFailsOnlyFor root.old root.new
         (IsQuestionFault root.old root.new (specifier_in root.old module_id)
         (query_resolve (reference_view dep.now))) result }
-    ensures stores { StoresOnly root.old root.new (IsNeededByQuestion root.old.rules root.old.graph
+    ensures stores { AreNewlyStoredAmong root.old root.new (IsOtherModuleNeededByQuestion root.old.rules root.old.graph
         (specifier_in root.old module_id) (query_resolve (reference_view dep.now))) }
     ensures given { IfOk result (λ answer. IsQuestionAnswerReturned root.old root.new
         (specifier_in root.old module_id) (query_resolve (reference_view dep.now))
@@ -211,6 +214,32 @@ fn entries_answer<'a>(
     }
 }
 
+/// Answers with the inputs of a query on the module that a specifier resolves to.
+fn inputs_answer<'a>(
+    root: &mut RootSymbol<'a>,
+    queried: &str,
+    inputs_of: &InputsOf<'_>,
+) -> Result<Answer<'a>, SymbolsFault>
+    ensures grown { HasGrown root.old root.new }
+    ensures given { IfOk result (λ answer. IsQueryAnswerReturned root.old root.new
+        (query_of_inputs queried.now inputs_of.now) (answer_view answer)) }
+    ensures faults { IfErr result
+        (IsQueryFault root.old root.new (query_of_inputs queried.now inputs_of.now)) }
+    ensures stores { AreNewlyStoredAmong root.old root.new (CanBeStoredByQuery root.old.rules root.old.graph
+        (query_of_inputs queried.now inputs_of.now)) }
+    ensures enough { root.old.limits ≡ widest_limits
+        → IfErr result (λ fault. (fault ≡ OutOfMemory) ⊎ (fault ≡ UnknownSymbol)) }
+{
+    let module_id = match root.module_from_specifier(queried) {
+        Err(fault) => return Err(fault),
+        Ok(module_id) => module_id,
+    };
+    match inputs(root, module_id, queried, inputs_of) {
+        Err(fault) => Err(fault),
+        Ok(listed) => Ok(Answer::Inputs(listed)),
+    }
+}
+
 /// Returns the answer to the question of a query, on the stored module that its specifier resolves
 /// to.
 fn answer_on<'a>(
@@ -218,11 +247,12 @@ fn answer_on<'a>(
     module_id: ModuleId,
     query: &Query<'_>,
 ) -> Result<Answer<'a>, SymbolsFault>
-    requires { IsStored root.old module_id }
+    requires known { IsStored root.old module_id }
+    requires form { (query_view query.now).form ≡ for_answer }
     ensures keeps { IsQuestionOutcome root.old root.new
         (IsQuestionFault root.old root.new (specifier_in root.old module_id)
         (query_view query.now).question) result }
-    ensures stores { StoresOnly root.old root.new (IsNeededByQuestion root.old.rules root.old.graph
+    ensures stores { AreNewlyStoredAmong root.old root.new (IsOtherModuleNeededByQuestion root.old.rules root.old.graph
         (specifier_in root.old module_id) (query_view query.now).question) }
     ensures given { IfOk result (λ answer. IsQuestionAnswerReturned root.old root.new
         (specifier_in root.old module_id) (query_view query.now).question (answer_view answer)) }
@@ -238,6 +268,29 @@ fn answer_on<'a>(
         Query::Definitions(_, symbol) => definitions_answer(root, module_id, *symbol),
         Query::Leaves(_, symbol) => leaves_answer(root, module_id, *symbol),
         Query::Resolve(_, dep) => entries_answer(root, module_id, dep),
+        Query::Inputs(_, _) => unreachable!(),
+    }
+}
+
+/// Returns the answer to the question of a query.
+fn question_answer<'a>(
+    root: &mut RootSymbol<'a>,
+    query: &Query<'_>,
+) -> Result<Answer<'a>, SymbolsFault>
+    requires { (query_view query.now).form ≡ for_answer }
+    ensures grown { HasGrown root.old root.new }
+    ensures given { IfOk result (λ answer. IsQueryAnswerReturned root.old root.new
+        (query_view query.now) (answer_view answer)) }
+    ensures faults { IfErr result (IsQueryFault root.old root.new (query_view query.now)) }
+    ensures stores { AreNewlyStoredAmong root.old root.new
+        (CanBeStoredByQuery root.old.rules root.old.graph (query_view query.now)) }
+    ensures enough { root.old.limits ≡ widest_limits
+        → IfErr result (λ fault. (fault ≡ OutOfMemory) ⊎ (fault ≡ UnknownSymbol)) }
+{
+    match root.module_from_specifier(query.specifier()) {
+        Err(fault) => Err(fault),
+        Ok(None) => Ok(Answer::NoModule),
+        Ok(Some(module_id)) => answer_on(root, module_id, query),
     }
 }
 
@@ -279,16 +332,15 @@ impl<'a> AnswerQueries<'a> for RootSymbol<'a> {
             (λ answer. AreQueryModulesStored self.new (query_view query.now) (answer_view answer)) }
         ensures listed { (start : List ℕ) → AreExportListsCorrectAndUnique self.old.graph start }
         ensures faults { IfErr result (IsQueryFault self.old self.new (query_view query.now)) }
-        ensures stores { StoresOnly self.old self.new
-            (IsStoredForQuery self.old.rules self.old.graph (query_view query.now)) }
+        ensures stores { AreNewlyStoredAmong self.old self.new
+            (CanBeStoredByQuery self.old.rules self.old.graph (query_view query.now)) }
         ensures enough { self.old.limits ≡ widest_limits
             → IfErr result (λ fault. (fault ≡ OutOfMemory) ⊎ (fault ≡ UnknownSymbol)) }
     {
         exports_are_listed(self);
-        match self.module_from_specifier(query.specifier()) {
-            Err(fault) => Err(fault),
-            Ok(None) => Ok(Answer::NoModule),
-            Ok(Some(module_id)) => answer_on(self, module_id, query),
+        match query {
+            Query::Inputs(queried, inputs_of) => inputs_answer(self, queried, inputs_of),
+            _ => question_answer(self, query),
         }
     }
 
@@ -306,8 +358,8 @@ impl<'a> AnswerQueries<'a> for RootSymbol<'a> {
             (answer_view answer)) queries.now answers.items) }
         ensures listed { (start : List ℕ) → AreExportListsCorrectAndUnique self.old.graph start }
         ensures faults { IfErr result (IsQueryListFault self.old self.new (map query_view queries.now)) }
-        ensures stores { StoresOnly self.old self.new
-            (IsStoredForQueries self.old.rules self.old.graph (map query_view queries.now)) }
+        ensures stores { AreNewlyStoredAmong self.old self.new
+            (CanBeStoredByQueries self.old.rules self.old.graph (map query_view queries.now)) }
         ensures enough { self.old.limits ≡ widest_limits
             → IfErr result (λ fault. (fault ≡ OutOfMemory) ⊎ (fault ≡ UnknownSymbol)) }
     {

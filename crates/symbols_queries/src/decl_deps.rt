@@ -1,7 +1,7 @@
 //! The dependencies of the declarations of a symbol.
 
 ghost use Rattle.std.specs.Prelude.{◌≡◌, map, IfOk};
-ghost use Rattle.symbols_nodes.specs.References.{dependency_view};
+ghost use Rattle.symbols_nodes.specs.References.{namespaced_reference_view};
 ghost use Rattle.symbols_table.specs.DeclViews.{decl_view};
 ghost use Rattle.symbols_deps.specs.DeclDependencies.{decl_dependencies};
 ghost use Rattle.symbols_table.specs.Symbols.{symbol_decls};

@@ -4,14 +4,14 @@ ghost use Rattle.std.specs.Prelude.{◌≡◌, ◌<◌, length, map, string_byte
 ghost use Rattle.std.specs.Option.{option_map};
 ghost use Rattle.symbols_exports.specs.ExportChains.{resolved_export, statements_of_chain};
 ghost use Rattle.symbols_exports.specs.SharedNameLists.{shared_name_view_of_resolved};
-ghost use Rattle.symbols_exports.specs.SharedNameLists.{AreExportersStored};
+ghost use Rattle.symbols_exports.specs.SharedNameLists.{AreExporterModulesStored};
 ghost use Rattle.symbols_exports.specs.CollectedNames.{resolved_export_views};
 ghost use Rattle.symbols_exports.specs.CollectedNames.{resolved_shared_name_views};
-ghost use Rattle.symbols_exports.specs.CollectedNames.{unresolved_specifier_view};
+ghost use Rattle.symbols_exports.specs.CollectedNames.{unresolved_star_view};
 ghost use Rattle.symbols_exports.specs.ExportViews.{star_statement_by_specifier};
 ghost use Rattle.symbols_exports.specs.ExportViews.{export_by_specifier};
-ghost use Rattle.symbols_exports.specs.ExportViews.{AreStatementsStored, IsExportStored};
-ghost use Rattle.symbols_exports.specs.ExportViews.{AreExportsStored};
+ghost use Rattle.symbols_exports.specs.ExportViews.{AreReferrersOfStarsStored, AreModulesOfExportStored};
+ghost use Rattle.symbols_exports.specs.ExportViews.{AreModulesOfExportsStored};
 ghost use Rattle.symbols_answers.specs.QueryAnswers.{some_if_strict};
 ghost use Rattle.symbols_queries.specs.AnswerViews.{star_statement_by_specifier_view, export_view};
 ghost use Rattle.symbols_queries.specs.AnswerViews.{shared_names_view};
@@ -92,7 +92,7 @@ pub(crate) fn chain_by_specifier<'a>(
     root: &RootSymbol<'a>,
     chain: &ResolvedExportOrReExportAllPath<'a>,
 ) -> Result<Vec<StarStatementBySpecifier<'a>>, AllocError>
-    requires { AreStatementsStored root.now (statements_of_chain chain.now) }
+    requires { AreReferrersOfStarsStored root.now (statements_of_chain chain.now) }
     ensures { IfOk result (λ statements. map star_statement_by_specifier_view statements.items
         ≡ map (star_statement_by_specifier root.now) (statements_of_chain chain.now)) }
 {
@@ -115,7 +115,7 @@ fn export_by_specifier<'a>(
     name: String,
     chain: &ResolvedExportOrReExportAllPath<'a>,
 ) -> Result<ExportBySpecifier<'a>, AllocError>
-    requires { IsExportStored root.now (record {
+    requires { AreModulesOfExportStored root.now (record {
       name = string_bytes name;
       statements = statements_of_chain chain.now;
       export = resolved_export chain.now;
@@ -142,7 +142,7 @@ fn export_list_by_specifier<'a>(
     root: &RootSymbol<'a>,
     resolved: IndexMap<String, ResolvedExportOrReExportAllPath<'a>, RandomState>,
 ) -> Result<Vec<ExportBySpecifier<'a>>, AllocError>
-    requires { AreExportsStored root.now (resolved_export_views resolved.entries) }
+    requires { AreModulesOfExportsStored root.now (resolved_export_views resolved.entries) }
     ensures { IfOk result (λ exports. map export_view exports.items
         ≡ map (export_by_specifier root.now) (resolved_export_views resolved.entry.entries)) }
 {
@@ -159,10 +159,10 @@ fn unresolved_by_specifier<'a>(
     root: &RootSymbol<'a>,
     unresolved: &[UnresolvedSpecifier<'a>],
 ) -> Result<Vec<StarStatementBySpecifier<'a>>, AllocError>
-    requires { AreStatementsStored root.now (map unresolved_specifier_view unresolved.now) }
+    requires { AreReferrersOfStarsStored root.now (map unresolved_star_view unresolved.now) }
     ensures { IfOk result (λ statements. map star_statement_by_specifier_view statements.items
         ≡ map (star_statement_by_specifier root.now)
-        (map unresolved_specifier_view unresolved.now)) }
+        (map unresolved_star_view unresolved.now)) }
 {
     let mut statements = Vec::new(alloc);
     for statement in unresolved {
@@ -181,10 +181,10 @@ pub(crate) fn exports_by_specifier<'a>(
     root: &RootSymbol<'a>,
     exports: ModuleExports<'a>,
 ) -> Result<ExportsBySpecifier<'a>, AllocError>
-    requires names { AreExportsStored root.now (resolved_export_views exports.resolved.entries) }
-    requires shared { AreExportersStored root.now (resolved_shared_name_views exports.shared.items) }
-    requires statements { AreStatementsStored root.now
-        (map unresolved_specifier_view exports.unresolved_specifiers.items) }
+    requires names { AreModulesOfExportsStored root.now (resolved_export_views exports.resolved.entries) }
+    requires shared { AreExporterModulesStored root.now (resolved_shared_name_views exports.shared.items) }
+    requires statements { AreReferrersOfStarsStored root.now
+        (map unresolved_star_view exports.unresolved_specifiers.items) }
     ensures names { IfOk result (λ named. map export_view named.exports.items
         ≡ map (export_by_specifier root.now)
         (resolved_export_views exports.entry.resolved.entries)) }
@@ -192,7 +192,7 @@ pub(crate) fn exports_by_specifier<'a>(
         ≡ some_if_strict root.now.rules (map (shared_name_view_of_resolved root.now)
         (resolved_shared_name_views exports.entry.shared.items))) }
     ensures statements { IfOk result (λ named. map star_statement_by_specifier_view named.unresolved.items
-        ≡ map (star_statement_by_specifier root.now) (map unresolved_specifier_view
+        ≡ map (star_statement_by_specifier root.now) (map unresolved_star_view
         exports.entry.unresolved_specifiers.items)) }
 {
     let unresolved = unresolved_by_specifier(alloc, root, &exports.unresolved_specifiers)?;

@@ -1,8 +1,7 @@
 //! Definition paths, with modules by specifier.
 
-ghost use Rattle.std.specs.Prelude.{◌≡◌, ◌<◌, length, map, IfOk};
-ghost use Rattle.symbols_paths.specs.declared.definition_path.DefinitionPathNode.TheVariants as node;
-ghost use Rattle.symbols_paths.specs.declared.definition_path.DefinitionPathNodeResolved.TheVariants as resolved;
+ghost use Rattle.std.specs.Prelude.{◌≡◌, ◌<◌, length, map, IfOk, IfSome};
+ghost use Rattle.symbols_queries.specs.declared.paths_by_specifier.PathBySpecifier.TheVariants as path;
 ghost use Rattle.symbols_paths.specs.Views.{definition_by_specifier, unresolved_entry_view};
 ghost use Rattle.symbols_paths.specs.Views.{path_by_specifier, paths_by_specifier};
 ghost use Rattle.symbols_paths.specs.Views.{path_leaf_of_end, remaining_definitions};
@@ -15,15 +14,15 @@ ghost use Rattle.symbols_queries.specs.AnswerViews.{definition_by_specifier_view
 ghost use Rattle.symbols_queries.specs.AnswerViews.{unresolved_by_specifier_view, path_tree_view};
 ghost use Rattle.symbols_queries.specs.AnswerViews.{path_forest_view, path_end_view};
 ghost use Rattle.symbols_queries.specs.AnswerViews.{dep_entry_view};
-ghost use Rattle.symbols_queries.specs.inner.AnswerViews.{path_link_view};
 
 use std::alloc::{AllocError, Global};
+use std::mem;
 use symbols_graph::ids::SymbolId;
 use symbols_graph::tree::SourceRange;
 use symbols_paths::{
     DeclRef, Definition, DefinitionKind, DefinitionOrUnresolved, DefinitionPathLink,
-    DefinitionPathNode, DefinitionPathNodeResolved, DefinitionUnresolved, DefinitionUnresolvedKind,
-    DefinitionsIter, DefinitionsOrUnresolvedsIter, ResolvedSymbolDepEntry,
+    DefinitionPathNode, DefinitionUnresolved, DefinitionUnresolvedKind, DefinitionsIter,
+    DefinitionsOrUnresolvedsIter, OpenedPathNode, ResolvedSymbolDepEntry,
 };
 use symbols_root::RootSymbol;
 
@@ -71,11 +70,71 @@ pub struct PathLinkBySpecifier<'a> {
 /// A definition path: a tree whose leaves are definitions and unresolved ends (extension; modules
 /// by specifier).
 #[cycle(named)]
-#[derive(Drop)]
 pub enum PathBySpecifier<'a> {
     Link(PathLinkBySpecifier<'a>),
     Definition(DefinitionBySpecifier<'a>),
     Unresolved(UnresolvedBySpecifier<'a>),
+}
+
+/// Drops the paths one after another, as `DefinitionPathNode` drops its nodes.
+impl Drop for PathBySpecifier<'_> {
+    fn drop(mut self) {
+        let Some(link) = self.into_link() else {
+            return;
+        };
+        let mut work = link.next;
+        let Some(first) = work.pop() else {
+            work.destroy_empty();
+            return;
+        };
+        self = first;
+        loop {
+            if let Some(link) = self.into_link() {
+                let PathLinkBySpecifier {
+                    module,
+                    symbol,
+                    decl,
+                    parts,
+                    mut next,
+                } = link;
+                if next.is_empty() {
+                    next.destroy_empty();
+                } else if work.is_empty() {
+                    work.destroy_empty();
+                    work = next;
+                } else {
+                    let link = PathLinkBySpecifier {
+                        module,
+                        symbol,
+                        decl,
+                        parts,
+                        next: work,
+                    };
+                    self = mem::replace(&mut next[0], PathBySpecifier::Link(link));
+                    work = next;
+                    continue;
+                }
+            }
+            let Some(path) = work.pop() else {
+                work.destroy_empty();
+                return;
+            };
+            self = path;
+        }
+    }
+}
+
+impl<'a> PathBySpecifier<'a> {
+    /// Returns the link that this path begins with; any other path is dropped.
+    fn into_link(self) -> Option<PathLinkBySpecifier<'a>>
+        ensures { IfSome result (λ link. self.entry ≡ path.Link link) }
+    {
+        match self {
+            PathBySpecifier::Link(link) => Some(link),
+            PathBySpecifier::Definition(_) => None,
+            PathBySpecifier::Unresolved(_) => None,
+        }
+    }
 }
 
 /// The end of a path (extension; its module by specifier).
@@ -123,8 +182,20 @@ fn unresolved_by_specifier<'a>(
     }
 }
 
-/// Returns the paths with specifiers in place of module numbers.
-#[cycle(naming)]
+/// A link whose next paths are being converted: the link without them, the paths after it that are
+/// still to be converted, the next one last, and the converted ones before it.
+#[derive(Drop)]
+struct OpenLink<'a> {
+    module: &'a str,
+    symbol: SymbolId,
+    decl: DeclRef,
+    parts: Vec<String>,
+    rest: Vec<DefinitionPathNode<'a>>,
+    before: Vec<PathBySpecifier<'a>>,
+}
+
+/// Returns the paths with specifiers in place of module numbers. The innermost of the open links is
+/// the last of `links`.
 pub(crate) fn paths_by_specifier<'a>(
     alloc: Global,
     root: &RootSymbol<'a>,
@@ -135,14 +206,72 @@ pub(crate) fn paths_by_specifier<'a>(
         (λ named. path_forest_view named.items ≡ paths_by_specifier root.now paths.entry.items) }
 {
     let mut named = Vec::new(alloc);
-    for path in paths {
-        named.push(path_by_specifier(alloc, root, path)?)?;
+    let mut rest = paths;
+    rest.reverse();
+    let mut links: Vec<OpenLink<'a>> = Vec::new(alloc);
+    loop {
+        if let Some(path) = rest.pop() {
+            match path.into_opened() {
+                OpenedPathNode::Unresolved(unresolved) => {
+                    named.push(PathBySpecifier::Unresolved(unresolved_by_specifier(
+                        root, unresolved,
+                    )))?;
+                }
+                OpenedPathNode::Definition(definition) => {
+                    named.push(PathBySpecifier::Definition(definition_by_specifier(
+                        root,
+                        &definition,
+                    )))?;
+                }
+                OpenedPathNode::Link(link) => {
+                    let DefinitionPathLink {
+                        module,
+                        symbol,
+                        symbol_decl,
+                        parts,
+                        mut next,
+                    } = link;
+                    next.reverse();
+                    links.push(OpenLink {
+                        module: root.specifier_from_id(module),
+                        symbol,
+                        decl: symbol_decl,
+                        parts,
+                        rest,
+                        before: named,
+                    })?;
+                    rest = next;
+                    named = Vec::new(alloc);
+                }
+            }
+        } else {
+            let Some(link) = links.pop() else {
+                return Ok(named);
+            };
+            let OpenLink {
+                module,
+                symbol,
+                decl,
+                parts,
+                rest: after,
+                before,
+            } = link;
+            let closed = PathLinkBySpecifier {
+                module,
+                symbol,
+                decl,
+                parts,
+                next: named,
+            };
+            rest = after;
+            named = before;
+            named.push(PathBySpecifier::Link(closed))?;
+        }
     }
-    Ok(named)
 }
 
-#[cycle(naming)]
-pub(crate) fn path_by_specifier<'a>(
+/// Returns the path with specifiers in place of module numbers.
+fn path_by_specifier<'a>(
     alloc: Global,
     root: &RootSymbol<'a>,
     path: DefinitionPathNode<'a>,
@@ -150,57 +279,13 @@ pub(crate) fn path_by_specifier<'a>(
     requires { AreModulesStored root.now (modules_of_path path) }
     ensures { IfOk result (λ named. path_tree_view named ≡ path_by_specifier root.now path.entry) }
 {
-    match path {
-        DefinitionPathNode::Unresolved(unresolved) => {
-            Ok(PathBySpecifier::Unresolved(unresolved_by_specifier(root, unresolved)))
-        }
-        DefinitionPathNode::Resolved(found) => resolved_by_specifier(alloc, root, found),
+    let mut paths = Vec::new(alloc);
+    paths.push(path)?;
+    let mut named = paths_by_specifier(alloc, root, paths)?;
+    match named.pop() {
+        Some(path) => Ok(path),
+        None => unreachable!(),
     }
-}
-
-#[cycle(naming)]
-fn resolved_by_specifier<'a>(
-    alloc: Global,
-    root: &RootSymbol<'a>,
-    found: DefinitionPathNodeResolved<'a>,
-) -> Result<PathBySpecifier<'a>, AllocError>
-    requires { AreModulesStored root.now (modules_of_path (node.Resolved found)) }
-    ensures { IfOk result
-        (λ named. path_tree_view named ≡ path_by_specifier root.now (node.Resolved found.entry)) }
-{
-    match found {
-        DefinitionPathNodeResolved::Definition(definition) => {
-            Ok(PathBySpecifier::Definition(definition_by_specifier(root, &definition)))
-        }
-        DefinitionPathNodeResolved::Link(link) => {
-            Ok(PathBySpecifier::Link(link_by_specifier(alloc, root, link)?))
-        }
-    }
-}
-
-#[cycle(naming)]
-fn link_by_specifier<'a>(
-    alloc: Global,
-    root: &RootSymbol<'a>,
-    link: DefinitionPathLink<'a>,
-) -> Result<PathLinkBySpecifier<'a>, AllocError>
-    requires here { link.«module».0 < length root.now.stored }
-    requires next { AreModulesStored root.now (modules_of_paths link.next.items) }
-    ensures { IfOk result (λ named. path_link_view named
-        ≡ path_by_specifier root.now (node.Resolved (resolved.Link link.entry))) }
-{
-    let module = root.specifier_from_id(link.module);
-    let symbol = link.symbol;
-    let decl = link.symbol_decl;
-    let parts = link.parts;
-    let next = paths_by_specifier(alloc, root, link.next)?;
-    Ok(PathLinkBySpecifier {
-        module,
-        symbol,
-        decl,
-        parts,
-        next,
-    })
 }
 
 fn path_end_by_specifier<'a>(

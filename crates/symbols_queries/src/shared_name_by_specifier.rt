@@ -4,12 +4,12 @@ ghost use Rattle.std.specs.Prelude.{◌≡◌, ◌<◌, ℕ, List, length, map, 
 ghost use Rattle.std.specs.Option.{option_map};
 ghost use Rattle.symbols_exports.specs.ExportChains.{resolved_export, statements_of_chain};
 ghost use Rattle.symbols_exports.specs.SharedNameLists.{shared_name_view_of_resolved};
-ghost use Rattle.symbols_exports.specs.SharedNameLists.{AreExportersStored};
+ghost use Rattle.symbols_exports.specs.SharedNameLists.{AreExporterModulesStored};
 ghost use Rattle.symbols_exports.specs.CollectedNames.{resolved_chain_view};
 ghost use Rattle.symbols_exports.specs.CollectedNames.{resolved_shared_name_view};
 ghost use Rattle.symbols_exports.specs.CollectedNames.{resolved_shared_name_views};
-ghost use Rattle.symbols_exports.specs.ExportViews.{export_by_specifier, AreStatementsStored};
-ghost use Rattle.symbols_exports.specs.ExportViews.{AreExportsStored};
+ghost use Rattle.symbols_exports.specs.ExportViews.{export_by_specifier, AreReferrersOfStarsStored};
+ghost use Rattle.symbols_exports.specs.ExportViews.{AreModulesOfExportsStored};
 ghost use Rattle.symbols_answers.specs.QueryAnswers.{some_if_strict};
 ghost use Rattle.symbols_queries.specs.AnswerViews.{exporter_view, shared_name_view as named_view};
 ghost use Rattle.symbols_queries.specs.AnswerViews.{shared_names_view};
@@ -45,7 +45,7 @@ fn exporter_by_specifier<'a>(
     root: &RootSymbol<'a>,
     chain: &ResolvedExportOrReExportAllPath<'a>,
 ) -> Result<ExporterBySpecifier<'a>, AllocError>
-    requires statements { AreStatementsStored root.now (statements_of_chain chain.now) }
+    requires statements { AreReferrersOfStarsStored root.now (statements_of_chain chain.now) }
     requires exporter { (resolved_export chain.now).«module».0 < length root.now.stored }
     ensures { IfOk result (λ exporter. (name : List ℕ)
         → exporter_view name exporter ≡ export_by_specifier root.now
@@ -65,7 +65,7 @@ fn exporters_by_specifier<'a>(
     root: &RootSymbol<'a>,
     shared: &SharedName<'a>,
 ) -> Result<Vec<ExporterBySpecifier<'a>>, AllocError>
-    requires { AreExportsStored root.now (resolved_shared_name_view shared.now).exporters }
+    requires { AreModulesOfExportsStored root.now (resolved_shared_name_view shared.now).exporters }
     ensures { IfOk result (λ exporters. map (exporter_view (string_bytes shared.now.name))
         exporters.items ≡ map (export_by_specifier root.now)
         (resolved_shared_name_view shared.now).exporters) }
@@ -83,7 +83,7 @@ fn shared_names_by_specifier<'a>(
     root: &RootSymbol<'a>,
     sharing: Vec<SharedName<'a>>,
 ) -> Result<Vec<SharedNameBySpecifier<'a>>, AllocError>
-    requires { AreExportersStored root.now (resolved_shared_name_views sharing.items) }
+    requires { AreExporterModulesStored root.now (resolved_shared_name_views sharing.items) }
     ensures { IfOk result (λ named. shared_names_view named
         ≡ map (shared_name_view_of_resolved root.now)
         (resolved_shared_name_views sharing.entry.items)) }
@@ -105,7 +105,7 @@ pub(crate) fn shared_names_by_rules<'a>(
     root: &RootSymbol<'a>,
     sharing: Vec<SharedName<'a>>,
 ) -> Result<Option<Vec<SharedNameBySpecifier<'a>>>, AllocError>
-    requires { AreExportersStored root.now (resolved_shared_name_views sharing.items) }
+    requires { AreExporterModulesStored root.now (resolved_shared_name_views sharing.items) }
     ensures { IfOk result (λ named. option_map shared_names_view named
         ≡ some_if_strict root.now.rules (map (shared_name_view_of_resolved root.now)
         (resolved_shared_name_views sharing.entry.items))) }

@@ -14,14 +14,16 @@ use Rattle.symbols_root.specs.Specifiers.{module_with_specifier, contains_specif
 use Rattle.symbols_root.specs.Roots.{RootView, widest_limits}
 use Rattle.symbols_root.specs.StoredModules.{StoredModule, stored_specifiers}
 use Rattle.symbols_root.specs.inner.StoredModules.{AreTablesOfModules}
-use Rattle.symbols_root.specs.laws.Specifiers.{laws, AreIn, under_in, one_more_in, no_more, among_index}
+use Rattle.symbols_root.specs.laws.Specifiers.{laws, AreSpecifiersOfModulesIn, specifier_of_found_module_is_in_graph, pushed_specifiers_are_in_graph, no_more}
+use Rattle.symbols_root.specs.laws.Specifiers.{specifier_index_if_contained}
 
 -- ---- modules
 
 -- stored modules are modules of the graph
-pub stored_in : (graph : GraphView) (limit : ℕ) (entries : List StoredModule) → AreTablesOfModules graph limit entries → AreIn graph (stored_specifiers entries)
+pub stored_in : (graph : GraphView) (limit : ℕ) (entries : List StoredModule) → AreTablesOfModules graph limit entries → AreSpecifiersOfModulesIn graph
+    (stored_specifiers entries)
 stored_in graph limit entries all q is =
-    let at = among_index (stored_specifiers entries) q is in
+    let at = specifier_index_if_contained (stored_specifiers entries) q is in
     by at.0 (slice_get entries at.0) refl (sym (slice_get-map (λ (e : StoredModule). e.0.now) entries at.0) ∙ at.1)
   where
     by : (i : ℕ) (o : Option StoredModule) → slice_get entries i ≡ o → option_map (λ (e : StoredModule). e.0.now) (slice_get entries i) ≡ Some q
@@ -30,16 +32,17 @@ stored_in graph limit entries all q is =
     by i (Some entry) gets here =
         let same : entry.0.now ≡ q = same_Some entry.0.now q (ap (option_map (λ (e : StoredModule). e.0.now)) (sym gets) ∙ here) in
         let whole = all i entry gets in
-        under_in graph q whole.graph_module (ap (module_with_specifier graph) (sym same) ∙ whole.under)
+        specifier_of_found_module_is_in_graph graph q whole.graph_module (ap (module_with_specifier graph) (sym same) ∙ whole.under)
 
 -- ---- so there is always room
 
 pub always_room : (root : RootView) (m : ModuleView) → root.limits ≡ widest_limits → length root.graph.modules < 4294967296 → IsDistinct bytes_eq root.stored
-    → AreIn root.graph root.stored → module_with_specifier root.graph m.specifier ≡ Some m → contains_specifier root.stored m.specifier ≡ false
+    → AreSpecifiersOfModulesIn root.graph root.stored → module_with_specifier root.graph m.specifier ≡ Some m → contains_specifier root.stored m.specifier
+    ≡ false
     → root.limits.modules ≤ length root.stored → ⊥
 always_room root m wide few once inside under new full =
     let more = no_more root.graph (root.stored ++ m.specifier ∷ []) (IsDistinct-push laws root.stored m.specifier once new)
-    (one_more_in root.graph root.stored m inside under) in
+    (pushed_specifiers_are_in_graph root.graph root.stored m inside under) in
     let limit : root.limits.modules ≡ 2 ^ 32 - 1 = ap (λ (l : Limits). l.modules) wide in
     omega (arith, more, length_push root.stored m.specifier, limit, few, full)
 
@@ -50,7 +53,7 @@ pub room_within : (graph : GraphView) (rules : Rules) (limits : Limits) (entries
     → root.limits ≡ widest_limits → length root.graph.modules < 4294967296 → module_with_specifier root.graph m.specifier ≡ Some m
     → contains_specifier (stored_specifiers entries) m.specifier ≡ false → limits.modules ≤ length (stored_specifiers entries) → ⊥
 room_within graph rules limits entries root m view all once wide few under new full =
-    let inside = subst (λ (r : RootView). AreIn r.graph r.stored) view (stored_in graph limits.symbols entries all) in
+    let inside = subst (λ (r : RootView). AreSpecifiersOfModulesIn r.graph r.stored) view (stored_in graph limits.symbols entries all) in
     let once' = subst (λ (r : RootView). IsDistinct bytes_eq r.stored) view once in
     let new' = subst (λ (r : RootView). contains_specifier r.stored m.specifier ≡ false) view new in
     let full' = subst (λ (r : RootView). r.limits.modules ≤ length r.stored) view full in

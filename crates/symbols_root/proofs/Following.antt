@@ -12,8 +12,9 @@ use Rattle.indexmap.specs.IndexSet.{insert_key}
 use Rattle.symbols_ast.specs.Graph.{GraphView, ModuleView, module_after_redirect, content_types_dependency, IsCheckedContent}
 use Rattle.symbols_root.specs.Specifiers.{module_with_specifier, contains_specifier}
 use Rattle.symbols_root.specs.TypesChains.{is_analyzable, types_module, types_chain_from, types_chain, get_prefer_types, HasTypesDependency}
-use Rattle.symbols_root.specs.laws.Specifiers.{laws, nothing_once, AreIn, none_in, one_more_in, looked_up_under, types_under}
-use Rattle.symbols_root.specs.laws.TypesChains.{from_none, from_old, from_new, room}
+use Rattle.symbols_root.specs.laws.Specifiers.{laws, empty_list_is_distinct, AreSpecifiersOfModulesIn, none_in, pushed_specifiers_are_in_graph}
+use Rattle.symbols_root.specs.laws.Specifiers.{redirected_module_has_its_specifier, types_module_has_its_specifier}
+use Rattle.symbols_root.specs.laws.TypesChains.{types_chain_from_no_module, types_chain_from_visited_module, types_chain_from_new_module, room}
 
 -- a module that was found: it has its own specifier in the graph, and its content is checked
 pub record IsKnown (graph : GraphView) (m : ModuleView) : Type 0 where
@@ -25,8 +26,8 @@ pub record IsFollowing (graph : GraphView) (specifier : List ℕ) (before : List
   pub passed : List ModuleView
   pub more : ℕ
   pub enough : length graph.modules ≤ more + length before
-  pub once : IsDistinct bytes_eq before
-  pub inside : AreIn graph before
+  pub has_no_duplicates : IsDistinct bytes_eq before
+  pub inside : AreSpecifiersOfModulesIn graph before
   pub chain : types_chain graph specifier ≡ passed ++ types_chain_from graph more before found
   pub last : resolved_to ≡ find is_analyzable (reverse passed)
   pub known : (m : ModuleView) → resolved_to ≡ Some m → IsKnown graph m
@@ -38,12 +39,12 @@ following_first graph specifier = record {
   passed = [];
   more = length graph.modules;
   enough = omega arith;
-  once = nothing_once;
+  has_no_duplicates = empty_list_is_distinct;
   inside = none_in graph;
   chain = refl;
   last = refl;
   known = λ m e. absurd (none-some m e);
-  under = looked_up_under graph specifier;
+  under = redirected_module_has_its_specifier graph specifier;
   named = λ m e. inl e;
 }
 
@@ -65,15 +66,15 @@ last_of resolved_to passed m last = ap (λ o. if is_analyzable m then Some m els
 
 module _ {graph : GraphView} {specifier : List ℕ} {before : List (List ℕ)} {resolved_to : Option ModuleView} where
   pub following_over : IsFollowing graph specifier before resolved_to None → resolved_to ≡ get_prefer_types graph specifier
-  following_over w = occurs_at_end graph specifier w.passed _ resolved_to w.chain (from_none graph w.more before) w.last
+  following_over w = occurs_at_end graph specifier w.passed _ resolved_to w.chain (types_chain_from_no_module graph w.more before) w.last
 
   pub following_back : (m : ModuleView) → IsFollowing graph specifier before resolved_to (Some m) → contains_specifier before m.specifier ≡ true
       → resolved_to ≡ get_prefer_types graph specifier
-  following_back m w is = occurs_at_end graph specifier w.passed _ resolved_to w.chain (from_old graph w.more before m is) w.last
+  following_back m w is = occurs_at_end graph specifier w.passed _ resolved_to w.chain (types_chain_from_visited_module graph w.more before m is) w.last
 
   pub following_room : (m : ModuleView) → IsFollowing graph specifier before resolved_to (Some m) → contains_specifier before m.specifier ≡ false
       → length before + 1 ≤ length graph.modules
-  following_room m w new = room graph before m w.once w.inside (w.under m refl) new
+  following_room m w new = room graph before m w.has_no_duplicates w.inside (w.under m refl) new
 
   -- the state after a new module
   pub following_next : (m : ModuleView) → IsFollowing graph specifier before resolved_to (Some m) → contains_specifier before m.specifier ≡ false
@@ -98,13 +99,13 @@ module _ {graph : GraphView} {specifier : List ℕ} {before : List (List ℕ)} {
         passed = w.passed ++ m ∷ [];
         more = more;
         enough = omega (arith, enough, length_push before m.specifier);
-        once = IsDistinct-push laws before m.specifier w.once new;
-        inside = one_more_in graph before m w.inside (w.under m refl);
-        chain = chain ∙ (ap (λ rest. w.passed ++ rest) (from_new graph more before m new)
+        has_no_duplicates = IsDistinct-push laws before m.specifier w.has_no_duplicates new;
+        inside = pushed_specifiers_are_in_graph graph before m w.inside (w.under m refl);
+        chain = chain ∙ (ap (λ rest. w.passed ++ rest) (types_chain_from_new_module graph more before m new)
             ∙ sym (append_assoc w.passed (m ∷ []) (types_chain_from graph more (before ++ m.specifier ∷ []) (types_module graph m))));
         last = last_of resolved_to w.passed m w.last;
         known = known_later (is_analyzable m);
-        under = types_under graph (content_types_dependency m.content);
+        under = types_module_has_its_specifier graph (content_types_dependency m.content);
         named = named_later (content_types_dependency m.content) refl;
       }
 
@@ -115,7 +116,8 @@ module _ {graph : GraphView} {specifier : List ℕ} {before : List (List ℕ)} {
   following_last m w new checked none =
       let next = following_next m w new checked in
       occurs_at_end graph specifier next.passed _ (if is_analyzable m then Some m else resolved_to) next.chain (ap (λ t. types_chain_from graph next.more
-      (before ++ m.specifier ∷ []) (option_and_then (module_after_redirect graph) t)) none ∙ from_none graph next.more (before ++ m.specifier ∷ [])) next.last
+      (before ++ m.specifier ∷ []) (option_and_then (module_after_redirect graph) t)) none ∙ types_chain_from_no_module graph next.more (before ++ m.specifier
+      ∷ [])) next.last
 
 -- the same at the values of a step
 pub following_step : {graph : GraphView} {specifier : List ℕ} {before : List (List ℕ)} {resolved_to found : Option ModuleView} (m : ModuleView) (types : List

@@ -18,7 +18,7 @@ use Rattle.symbols_table.specs.declared.info.fault.SymbolsFault.TheVariants as f
 use Rattle.symbols_table.specs.Analysis.{IsAnalysisResult, IsAnalyzedTable, IsAnalysisFault}
 use Rattle.symbols_table.specs.Modules.{symbol_table_of}
 use Rattle.symbols_root.specs.Specifiers.{module_with_specifier, contains_specifier}
-use Rattle.symbols_root.specs.Roots.{RootView, with_stored_module, HasRoomForModule, IsNeededUnstored, IsStoringFault, IsTableOfModule}
+use Rattle.symbols_root.specs.Roots.{RootView, with_stored_module, HasRoomForModule, IsNeededAndNotStored, IsStoringFault, IsTableOfModule}
 use Rattle.symbols_root.specs.StoredModules.{StoredModule, stored_specifiers}
 use Rattle.symbols_root.specs.inner.StoredModules.{AreTablesOfModules, ResolvesToItself}
 use Rattle.symbols_root.specs.laws.Specifiers.{same_bytes}
@@ -115,7 +115,7 @@ pub with_new : (root : RootView) (q : List ℕ) → contains_specifier root.stor
 with_new root q is = sym (ap (λ b. record root { stored = if b then root.stored else root.stored ++ q ∷ [] }) is)
 
 -- a stored module isn't missing
-pub none_missing : {B : Type 0} (root : RootView) (q s : List ℕ) → contains_specifier root.stored q ≡ true → IsNeededUnstored root (Some q) s → B
+pub none_missing : {B : Type 0} (root : RootView) (q s : List ℕ) → contains_specifier root.stored q ≡ true → IsNeededAndNotStored root (Some q) s → B
 none_missing root q s is missing = absurd (true≢false (sym is ∙ (ap (contains_specifier root.stored) (same_Some q s missing.0) ∙ missing.1)))
 
 -- the fault of an analysis is a reason why the module isn't stored
@@ -138,6 +138,6 @@ table_under graph limit module_id m info q under same analysis = record {
   graph_module = m;
   source = analysis.0;
   under = ap (module_with_specifier graph) same ∙ under;
-  source_is = analysis.1;
-  analyzed = subst (λ s. IsAnalyzedTable module_id s analysis.0 limit (symbol_table_of info)) (sym same) analysis.2;
+  is_source_of_module = analysis.1;
+  is_analyzed_table = subst (λ s. IsAnalyzedTable module_id s analysis.0 limit (symbol_table_of info)) (sym same) analysis.2;
 }

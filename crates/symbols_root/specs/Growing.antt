@@ -11,4 +11,4 @@ pub record HasGrown (old new : RootView) : Type 0 where
   pub limits : new.limits ≡ old.limits
   pub added : List (List ℕ)
   pub stored : new.stored ≡ old.stored ++ added
-  pub once : IsDistinct bytes_eq old.stored → IsDistinct bytes_eq new.stored
+  pub has_no_duplicates : IsDistinct bytes_eq old.stored → IsDistinct bytes_eq new.stored

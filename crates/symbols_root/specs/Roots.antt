@@ -52,17 +52,17 @@ pub record IsTableOfModule (graph : GraphView) (limit : ℕ) (module_id : Module
   pub graph_module : ModuleView
   pub source : AnalyzableSource
   pub under : module_with_specifier graph specifier ≡ Some graph_module
-  pub source_is : analyzable_source graph_module.content ≡ Some source
-  pub analyzed : IsAnalyzedTable module_id specifier source limit table
+  pub is_source_of_module : analyzable_source graph_module.content ≡ Some source
+  pub is_analyzed_table : IsAnalyzedTable module_id specifier source limit table
 
 -- the table is that of the stored module of this number
-abbrev pub IsStoredTable : RootView → ModuleId → SymbolTable → Type 0
-IsStoredTable root module_id table = (specifier : List ℕ) × (maybe_specifier root module_id ≡ Some specifier)
+abbrev pub IsTableOfStoredModule : RootView → ModuleId → SymbolTable → Type 0
+IsTableOfStoredModule root module_id table = (specifier : List ℕ) × (maybe_specifier root module_id ≡ Some specifier)
     × IsTableOfModule root.graph root.limits.symbols module_id specifier table
 
 -- the module of this specifier is needed and isn't stored
-abbrev pub IsNeededUnstored : RootView → Option (List ℕ) → List ℕ → Type 0
-IsNeededUnstored root needed specifier = (needed ≡ Some specifier) × (contains_specifier root.stored specifier ≡ false)
+abbrev pub IsNeededAndNotStored : RootView → Option (List ℕ) → List ℕ → Type 0
+IsNeededAndNotStored root needed specifier = (needed ≡ Some specifier) × (contains_specifier root.stored specifier ≡ false)
 
 -- one more module may be stored
 abbrev pub HasRoomForModule : RootView → Type 0
@@ -72,8 +72,8 @@ HasRoomForModule root = length root.stored < root.limits.modules
 -- Unknown numbers are no reason
 abbrev pub IsStoringFault : RootView → Option (List ℕ) → SymbolsFault → Type 0
 IsStoringFault root needed fault.OutOfMemory = Unit {0}
-IsStoringFault root needed fault.TooManyModules = (specifier : List ℕ) × IsNeededUnstored root needed specifier × (root.limits.modules ≤ length root.stored)
-IsStoringFault root needed (fault.TooManySymbols specifier) = IsNeededUnstored root needed (string_bytes specifier) × HasRoomForModule root
+IsStoringFault root needed fault.TooManyModules = (specifier : List ℕ) × IsNeededAndNotStored root needed specifier × (root.limits.modules ≤ length root.stored)
+IsStoringFault root needed (fault.TooManySymbols specifier) = IsNeededAndNotStored root needed (string_bytes specifier) × HasRoomForModule root
     × ((m : ModuleView) × (module_with_specifier root.graph (string_bytes specifier) ≡ Some m) × HasTooManySymbols m root.limits.symbols)
 IsStoringFault root needed fault.UnknownModule = ⊥
 IsStoringFault root needed fault.UnknownSymbol = ⊥

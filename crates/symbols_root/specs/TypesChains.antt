@@ -27,17 +27,17 @@ AreTypesModulesFrom graph found [] = Unit {0}
 AreTypesModulesFrom graph found (m ∷ rest) = (found ≡ Some m) × AreTypesModulesFrom graph (types_module graph m) rest
 
 -- distinct modules: the first is that of the specifier after one redirect, each other the types module of the one before
-pub record FollowsTypesDependencies (graph : GraphView) (specifier : List ℕ) (modules : List ModuleView) : Type 0 where
+pub record IsTypesDependencyPath (graph : GraphView) (specifier : List ℕ) (modules : List ModuleView) : Type 0 where
   pub in_order : AreTypesModulesFrom graph (module_after_redirect graph specifier) modules
-  pub once : IsDistinct bytes_eq (module_specifiers modules)
+  pub has_no_duplicates : IsDistinct bytes_eq (module_specifiers modules)
 
 -- the types chain of a specifier: the longest such list
 pub record IsTypesChain (graph : GraphView) (specifier : List ℕ) (chain : List ModuleView) : Type 0 where
-  pub follows : FollowsTypesDependencies graph specifier chain
-  pub longest : (other : List ModuleView) → FollowsTypesDependencies graph specifier other → length other ≤ length chain
+  pub is_types_dependency_path : IsTypesDependencyPath graph specifier chain
+  pub is_longest : (other : List ModuleView) → IsTypesDependencyPath graph specifier other → length other ≤ length chain
 
 -- this list is the types chain, and no other is
-pub record IsOnlyTypesChain (graph : GraphView) (specifier : List ℕ) (chain : List ModuleView) : Type 0 where
+pub record IsUniqueTypesChain (graph : GraphView) (specifier : List ℕ) (chain : List ModuleView) : Type 0 where
   pub is_chain : IsTypesChain graph specifier chain
   pub only : (other : List ModuleView) → IsTypesChain graph specifier other → other ≡ chain
 
@@ -49,7 +49,7 @@ types_chain_from graph (suc n) before None = []
 types_chain_from graph (suc n) before (Some m) =
     if contains_specifier before m.specifier then [] else m ∷ types_chain_from graph n (before ++ m.specifier ∷ []) (types_module graph m)
 
--- the types chain: `IsOnlyTypesChain` holds of it
+-- the types chain: `IsUniqueTypesChain` holds of it
 abbrev pub types_chain : GraphView → List ℕ → List ModuleView
 types_chain graph specifier = types_chain_from graph (length graph.modules) [] (module_after_redirect graph specifier)
 

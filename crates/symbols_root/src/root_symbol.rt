@@ -8,18 +8,18 @@ ghost use Rattle.std.specs.Str.{bytes_eq};
 ghost use Rattle.symbols_ast.specs.Graph.{ModuleView};
 ghost use Rattle.symbols_ast.specs.Ids.{id_view};
 ghost use Rattle.symbols_table.specs.Modules.{symbol_table_of_ref};
-ghost use Rattle.symbols_table.specs.Changes.{mapped_symbol_after};
+ghost use Rattle.symbols_table.specs.Changes.{symbol_of_ident_after_changes};
 ghost use Rattle.symbols_root.specs.declared.rules.Rules.TheVariants as rules;
 ghost use Rattle.symbols_root.specs.Specifiers.{module_with_specifier, contains_specifier};
 ghost use Rattle.symbols_root.specs.TypesChains.{is_analyzable, types_chain, get_prefer_types};
-ghost use Rattle.symbols_root.specs.TypesChains.{resolved_module_specifier, IsOnlyTypesChain};
+ghost use Rattle.symbols_root.specs.TypesChains.{resolved_module_specifier, IsUniqueTypesChain};
 ghost use Rattle.symbols_root.specs.Roots.{empty_root, with_stored_module, maybe_specifier};
-ghost use Rattle.symbols_root.specs.Roots.{IsStoredTable, specifier_in};
+ghost use Rattle.symbols_root.specs.Roots.{IsTableOfStoredModule, specifier_in};
 ghost use Rattle.symbols_root.specs.GraphModules.{changes_of_module};
-ghost use Rattle.symbols_root.specs.Roots.{IsNeededUnstored, IsStoringFault, IsModuleWithinLimits};
+ghost use Rattle.symbols_root.specs.Roots.{IsNeededAndNotStored, IsStoringFault, IsModuleWithinLimits};
 ghost use Rattle.symbols_root.specs.Roots.{widest_limits};
 ghost use Rattle.symbols_root.specs.Growing.{HasGrown};
-ghost use Rattle.symbols_root.specs.Calls.{IsStored, WidestLimitsSuffice, KeepsStored};
+ghost use Rattle.symbols_root.specs.Calls.{IsStored, IsOnlyOutOfMemoryByWidestLimits, HasGrownAndFailsOnlyFor};
 ghost use Rattle.symbols_root.specs.Calls.{CanResolvingFail};
 ghost use Rattle.symbols_root.specs.inner.StoredModules.{ResolvesToItself};
 
@@ -159,7 +159,7 @@ impl<'a> RootSymbol<'a> {
     pub fn module_from_id(&self, module_id: ModuleId) -> Option<ModuleInfoRef<'_, 'a>>
         ensures found { IsSome result ↔ IsStored self.now module_id }
         ensures table { IfSome result
-            (λ info. IsStoredTable self.now module_id (symbol_table_of_ref info)) }
+            (λ info. IsTableOfStoredModule self.now module_id (symbol_table_of_ref info)) }
         ensures once { IsDistinct bytes_eq self.now.stored }
         ensures within { length self.now.stored ≤ self.now.limits.modules }
     {
@@ -184,7 +184,7 @@ impl<'a> RootSymbol<'a> {
     /// a JSON module has one (extension).
     pub fn symbol_id_from_swc(&self, module_id: ModuleId, id: &Id) -> Option<SymbolId>
         requires { IsStored self.now module_id }
-        ensures { result ≡ mapped_symbol_after (changes_of_module self.now.graph
+        ensures { result ≡ symbol_of_ident_after_changes (changes_of_module self.now.graph
             (specifier_in self.now module_id)) (id_view id.now) }
     {
         match self.module_from_id(module_id) {
@@ -205,12 +205,12 @@ impl<'a> RootSymbol<'a> {
         ensures stored { OnOk result
             (self.new ≡ with_stored_module self.old (Some graph_module.now.specifier)) }
         ensures allowed { OnOk result ((specifier : List ℕ)
-            → IsNeededUnstored self.old (Some graph_module.now.specifier) specifier
+            → IsNeededAndNotStored self.old (Some graph_module.now.specifier) specifier
             → IsModuleWithinLimits self.old specifier) }
         ensures unchanged { OnErr result (self.new ≡ self.old) }
         ensures refused { IfErr result (IsStoringFault self.old (Some graph_module.now.specifier)) }
         ensures enough { length self.old.graph.modules < 4294967296
-            → WidestLimitsSuffice self.old result }
+            → IsOnlyOutOfMemoryByWidestLimits self.old result }
         ensures unstored { OnErr result
             (contains_specifier self.old.stored graph_module.now.specifier ≡ false) }
     {
@@ -281,7 +281,7 @@ impl<'a> RootSymbol<'a> {
         &mut self,
         specifier: &str,
     ) -> Result<Option<ModuleId>, SymbolsFault>
-        ensures keeps { KeepsStored self.old self.new
+        ensures keeps { HasGrownAndFailsOnlyFor self.old self.new
             (IsStoringFault self.old (resolved_module_specifier self.old.graph specifier.now))
             result }
         ensures gives { IfOk result (λ id. option_map (maybe_specifier self.new) id
@@ -290,14 +290,14 @@ impl<'a> RootSymbol<'a> {
             ≡ with_stored_module self.old
             (resolved_module_specifier self.old.graph specifier.now)) }
         ensures allowed { OnOk result ((needed : List ℕ)
-            → IsNeededUnstored self.old (resolved_module_specifier self.old.graph specifier.now)
+            → IsNeededAndNotStored self.old (resolved_module_specifier self.old.graph specifier.now)
             needed
             → IsModuleWithinLimits self.old needed) }
         ensures unchanged { OnErr result (self.new ≡ self.old) }
         ensures can_fail { OnErr result (CanResolvingFail self.old specifier.now) }
         ensures under { IfOk result (λ _. IfSome (get_prefer_types self.old.graph specifier.now)
             (λ m. module_with_specifier self.old.graph m.specifier ≡ Some m)) }
-        ensures chain { IsOnlyTypesChain self.old.graph specifier.now
+        ensures chain { IsUniqueTypesChain self.old.graph specifier.now
             (types_chain self.old.graph specifier.now) }
     {
         if let Some(module_id) = self.last_requested(specifier) {

@@ -9,7 +9,7 @@ ghost use Rattle.std.specs.Str.{bytes_eq};
 ghost use Rattle.symbols_ast.specs.Graph.{ModuleView, IsCheckedContent};
 ghost use Rattle.symbols_root.specs.Specifiers.{module_with_specifier};
 ghost use Rattle.symbols_root.specs.TypesChains.{is_analyzable, types_chain, get_prefer_types};
-ghost use Rattle.symbols_root.specs.TypesChains.{IsOnlyTypesChain, HasTypesDependency};
+ghost use Rattle.symbols_root.specs.TypesChains.{IsUniqueTypesChain, HasTypesDependency};
 
 use indexmap::IndexSet;
 use std::alloc::{AllocError, Global};
@@ -61,7 +61,7 @@ pub(crate) fn get_prefer_types<'a>(
         (λ found. IfSome found
         (λ m. module_with_specifier graph.now m.now.specifier ≡ Some m.now)) }
     ensures checked { IfOk result (λ found. IfSome found (λ m. IsCheckedContent m.now.content)) }
-    ensures chain { IsOnlyTypesChain graph.now specifier.now (types_chain graph.now specifier.now) }
+    ensures chain { IsUniqueTypesChain graph.now specifier.now (types_chain graph.now specifier.now) }
     ensures few { length graph.now.modules < 4294967296 }
     ensures types { OnErr result (HasTypesDependency graph.now specifier.now) }
 {

@@ -19,11 +19,11 @@ use Rattle.symbols_table.specs.declared.builder.table.ModuleBuilder.{ModuleBuild
 use Rattle.symbols_table.specs.declared.builder.table.BuildFault.{BuildFault}
 use Rattle.symbols_table.specs.declared.builder.table.BuildFault.TheVariants.{TooManySymbols}
 use Rattle.symbols_table.specs.DeclViews.{Declaration, definition_of_node}
-use Rattle.symbols_table.specs.Changes.{Change, makes_symbol, adds_decl, parents_after, exports_after, mapped_symbol_after, export_stars_after}
+use Rattle.symbols_table.specs.Changes.{Change, adds_symbol, adds_decl, parents_after, exports_after, symbol_of_ident_after_changes, export_stars_after}
 use Rattle.symbols_table.specs.Events.{DeclarationEvent, EventEffect, begins, default, effect_of_event, default_export_effect, changes_of_effects}
 use Rattle.symbols_table.specs.Events.{symbol_of_event_at, effects_after_events, changes_of_events}
 use Rattle.symbols_table.specs.JsonEvents.{json_decl}
-use Rattle.symbols_table.specs.EventsByPosition.{range_or_empty}
+use Rattle.symbols_table.specs.EventsByHolderAndStart.{range_or_empty}
 use Rattle.symbols_table.specs.TreeEvents.{item_list_events, module_scope, program_node, program_decl}
 use Rattle.symbols_table.specs.Symbols.{symbol_parent}
 use Rattle.symbols_table.specs.inner.Symbols.{IsSymbolOfChanges}
@@ -56,7 +56,7 @@ first_changes decl = ap changes_of_effects (first_step decl [] ∙ effects_after
 -- After its first symbol, a new builder has the table of the module's own event.
 pub begun : (b0 b1 : ModuleBuilder) (decl : Declaration) (s : SymbolId) → b0.symbols.items ≡ [] → b0.ids.entries ≡ [] → b0.child_names.entries ≡ []
     → b0.member_names.entries ≡ [] → b0.stars.items ≡ [] → s.0 ≡ length b0.symbols.items
-    → ((changes : List Change) → HasAppliedChanges b0 changes → HasAppliedChanges b1 ((changes ++ makes_symbol None ∷ []) ++ adds_decl s decl ∷ []))
+    → ((changes : List Change) → HasAppliedChanges b0 changes → HasAppliedChanges b1 ((changes ++ adds_symbol None ∷ []) ++ adds_decl s decl ∷ []))
     → HasAppliedChanges b1 (changes_of_events (begins decl ∷ []))
 begun b0 b1 decl s no_symbols no_ids no_children no_members no_stars number made =
     let read = begun_read b0 b1 decl s no_symbols no_ids no_children no_members no_stars number made in
@@ -148,8 +148,8 @@ pub json_none_fits : (text : List ℕ) (limit : ℕ) → limit ≡ 0 → limit <
 json_none_fits text limit none = begun_fault (json_decl text) (default 0 (json_decl text) ∷ []) limit 0 refl (omega (arith, none))
 
 -- A JSON text binds no identifier and has no `export *`.
-pub json_maps_none : (text : List ℕ) (id : IdView) → None ≡ mapped_symbol_after (table_changes_from_json text) id
-unfolding changes_of_effects symbol_of_event_at effects_after_events exports_after parents_after mapped_symbol_after
+pub json_maps_none : (text : List ℕ) (id : IdView) → None ≡ symbol_of_ident_after_changes (table_changes_from_json text) id
+unfolding changes_of_effects symbol_of_event_at effects_after_events exports_after parents_after symbol_of_ident_after_changes
 json_maps_none text id = refl
 
 pub json_has_no_star : (text : List ℕ) → [] ≡ export_stars_after (table_changes_from_json text)

@@ -5,13 +5,14 @@ use Rattle.std.specs.List.{filter_map, cons_option}
 use Rattle.std.proofs.lemmas.List.Elements.{All-nil, All-cons, All-append}
 use Rattle.symbols_ast.specs.declared.tree.arena.Tree.{Tree}
 use Rattle.symbols_ast.specs.declared.ids.SymbolId.{SymbolId}
-use Rattle.symbols_table.specs.DeclViews.{Declaration, is_definition, decl_name, append_decl, last_decl, is_overload_after}
-use Rattle.symbols_table.specs.Changes.{Change, makes_symbol, adds_decl, exports, adds_child, adds_member, maps, re_exports_all, some_if, is_same_symbol_id}
-use Rattle.symbols_table.specs.Changes.{decl_added_by, export_star_added_by, decls_after, export_stars_after, mapped_symbol_after, exported_symbol}
+use Rattle.symbols_table.specs.DeclViews.{Declaration, is_definition, decl_name, append_decl_with_overload_flag, last_decl, is_overload_after_decl}
+use Rattle.symbols_table.specs.Changes.{Change, adds_symbol, adds_decl, exports, adds_child, adds_member, maps, re_exports_all, some_if, is_same_symbol_id}
+use Rattle.symbols_table.specs.Changes.{decl_added_by, export_star_added_by, decls_after, export_stars_after, symbol_of_ident_after_changes, exported_symbol}
 use Rattle.symbols_table.specs.Changes.{has_function_decl}
 use Rattle.symbols_table.specs.Events.{DeclarationEvent, begins, declare, declare_alias, declare_unnamed, default, binds, member, expando, export, child, star}
 use Rattle.symbols_table.specs.Events.{EventEffect, empty_effect}
-use Rattle.symbols_table.specs.Events.{next_symbol_id, new_symbol_effect, redeclare_effect_or, existing_symbol_effect_or, effect_if_symbol, new_member_changes}
+use Rattle.symbols_table.specs.Events.{next_symbol_id, new_symbol_effect, effect_of_redeclaring_or, effect_of_existing_symbol_or, effect_if_symbol}
+use Rattle.symbols_table.specs.Events.{new_member_changes}
 use Rattle.symbols_table.specs.Events.{find_member_symbol, member_effect, declare_effect}
 use Rattle.symbols_table.specs.Events.{declare_alias_effect, default_export_effect, default_export_name, expando_effect, effect_of_event, changes_of_effects}
 use Rattle.symbols_table.specs.Events.{symbol_of_event_at, effects_after_events, changes_of_events}
@@ -24,7 +25,7 @@ use Rattle.symbols_table.proofs.EventsOfTree.{IsEventOf, AreInTree}
 abbrev pub IsChangeOf : Tree → Change → Type 0
 IsChangeOf tree (adds_decl _ decl) = IsDeclaredInTree tree decl
 IsChangeOf tree (re_exports_all statement) = IsExportStarInTree tree statement
-IsChangeOf tree (makes_symbol _) = Unit {0}
+IsChangeOf tree (adds_symbol _) = Unit {0}
 IsChangeOf tree (exports _ _ _) = Unit {0}
 IsChangeOf tree (adds_child _ _) = Unit {0}
 IsChangeOf tree (adds_member _ _) = Unit {0}
@@ -49,14 +50,14 @@ module _ (tree : Tree) where
       → ((s : SymbolId) → AreChangesOf (more s)) → AreChangesOf (new_symbol_effect before parent decl more).changes
   new_of before parent decl more is rest =
       let s = next_symbol_id before in
-      first_of (makes_symbol parent) (adds_decl s decl ∷ more s) tt (first_of (adds_decl s decl) (more s) is (rest s))
+      first_of (adds_symbol parent) (adds_decl s decl ∷ more s) tt (first_of (adds_decl s decl) (more s) is (rest s))
 
   found_of : (found : Option SymbolId) (decl : Declaration) (row : EventEffect) → IsDeclaredInTree tree decl → AreChangesOf row.changes
-      → AreChangesOf (redeclare_effect_or found decl row).changes
+      → AreChangesOf (effect_of_redeclaring_or found decl row).changes
   found_of None decl row is rest = rest
   found_of (Some s) decl row is rest = one_of (adds_decl s decl) is
 
-  known_of : (found : Option SymbolId) (row : EventEffect) → AreChangesOf row.changes → AreChangesOf (existing_symbol_effect_or found row).changes
+  known_of : (found : Option SymbolId) (row : EventEffect) → AreChangesOf row.changes → AreChangesOf (effect_of_existing_symbol_or found row).changes
   known_of None row rest = rest
   known_of (Some s) row rest = none_of
 
@@ -101,17 +102,17 @@ module _ (tree : Tree) where
     row_is_of : (at : ℕ → Option SymbolId) (event : DeclarationEvent) → IsEventOf tree event → AreChangesOf (effect_of_event before at event).changes
     row_is_of at (begins decl) is = new_of before None decl (λ _. []) is (λ s. none_of)
     row_is_of at (declare holder id decl) is = with_of (at holder) (λ h. declare_effect before h id decl) (λ h.
-        found_of (mapped_symbol_after before id) decl (new_symbol_effect before (Some h) decl (λ s. maps id s ∷ [])) is
+        found_of (symbol_of_ident_after_changes before id) decl (new_symbol_effect before (Some h) decl (λ s. maps id s ∷ [])) is
         (new_of before (Some h) decl (λ s. maps id s ∷ []) is (λ s. one_of (maps id s) tt)))
     row_is_of at (declare_alias holder id decl) is = with_of (at holder) (λ h. declare_alias_effect before h id decl) (λ h.
-        known_of (mapped_symbol_after before id) (new_symbol_effect before (Some h) decl (λ s. maps id s ∷ []))
+        known_of (symbol_of_ident_after_changes before id) (new_symbol_effect before (Some h) decl (λ s. maps id s ∷ []))
         (new_of before (Some h) decl (λ s. maps id s ∷ []) is (λ s. one_of (maps id s) tt)))
     row_is_of at (declare_unnamed holder decl) is =
         with_of (at holder) (λ h. new_symbol_effect before (Some h) decl (λ _. [])) (λ h. new_of before (Some h) decl (λ _. []) is (λ s. none_of))
     row_is_of at (default holder decl) is = with_of (at holder) (λ h. default_export_effect before h decl) (λ h. default_of h decl is)
     row_is_of at (binds id of) is = with_of (at of) _ (λ s. one_of (maps id s) tt)
     row_is_of at (member holder decl is_static) is = with_of (at holder) (λ h. member_effect before h decl is_static) (λ h. member_of h decl is_static is)
-    row_is_of at (expando id decl) is = expando_of (mapped_symbol_after before id) decl is
+    row_is_of at (expando id decl) is = expando_of (symbol_of_ident_after_changes before id) decl is
     row_is_of at (export holder name of) is = with_of (at holder) _ (λ h. with_of (at of) _ (λ s. one_of (exports h name s) tt))
     row_is_of at (child holder of) is = with_of (at holder) _ (λ h. with_of (at of) _ (λ s. one_of (adds_child h s) tt))
     row_is_of at (star statement) is = one_of (re_exports_all statement) is
@@ -136,27 +137,27 @@ module _ (tree : Tree) where
   -- ---- the resulting declarations and `export *` statements
 
   decls_are_of : (s : SymbolId) (decls : List Declaration) (changes : List Change) → All (IsDeclaredInTree tree) decls → AreChangesOf changes
-      → All (IsDeclaredInTree tree) (fold append_decl decls (filter_map (decl_added_by s) changes))
+      → All (IsDeclaredInTree tree) (fold append_decl_with_overload_flag decls (filter_map (decl_added_by s) changes))
   decls_are_of s decls [] before of_tree = before
   decls_are_of s decls (change ∷ changes) before of_tree = by change (All-head (IsChangeOf tree) change changes of_tree)
       (λ more local_name_bytes. decls_are_of s more changes local_name_bytes (All-tail (IsChangeOf tree) change changes of_tree))
     where
       consumed : (b : Bool) (decl : Declaration) → IsDeclaredInTree tree decl
           → ((more : List Declaration) → All (IsDeclaredInTree tree) more
-          → All (IsDeclaredInTree tree) (fold append_decl more (filter_map (decl_added_by s) changes)))
-          → All (IsDeclaredInTree tree) (fold append_decl decls (cons_option (some_if b decl) (filter_map (decl_added_by s) changes)))
+          → All (IsDeclaredInTree tree) (fold append_decl_with_overload_flag more (filter_map (decl_added_by s) changes)))
+          → All (IsDeclaredInTree tree) (fold append_decl_with_overload_flag decls (cons_option (some_if b decl) (filter_map (decl_added_by s) changes)))
       consumed true decl is rest =
-          let flagged : Declaration = record decl { has_overloads = is_overload_after (last_decl decls) decl } in
+          let flagged : Declaration = record decl { has_overloads = is_overload_after_decl (last_decl decls) decl } in
           rest (decls ++ flagged ∷ []) (All-append (IsDeclaredInTree tree) decls (flagged ∷ []) before
           (All-cons (IsDeclaredInTree tree) flagged [] is (All-nil (IsDeclaredInTree tree))))
       consumed false decl is rest = rest decls before
 
       by : (change : Change) → IsChangeOf tree change
           → ((more : List Declaration) → All (IsDeclaredInTree tree) more
-          → All (IsDeclaredInTree tree) (fold append_decl more (filter_map (decl_added_by s) changes)))
-          → All (IsDeclaredInTree tree) (fold append_decl decls (filter_map (decl_added_by s) (change ∷ changes)))
+          → All (IsDeclaredInTree tree) (fold append_decl_with_overload_flag more (filter_map (decl_added_by s) changes)))
+          → All (IsDeclaredInTree tree) (fold append_decl_with_overload_flag decls (filter_map (decl_added_by s) (change ∷ changes)))
       by (adds_decl t decl) is rest = consumed (is_same_symbol_id t s) decl is rest
-      by (makes_symbol _) is rest = rest decls before
+      by (adds_symbol _) is rest = rest decls before
       by (exports _ _ _) is rest = rest decls before
       by (adds_child _ _) is rest = rest decls before
       by (adds_member _ _) is rest = rest decls before
@@ -176,7 +177,7 @@ module _ (tree : Tree) where
       by : (change : Change) → IsChangeOf tree change → All (IsExportStarInTree tree) (filter_map export_star_added_by changes)
           → All (IsExportStarInTree tree) (filter_map export_star_added_by (change ∷ changes))
       by (re_exports_all statement) is rest = All-cons (IsExportStarInTree tree) statement (filter_map export_star_added_by changes) is rest
-      by (makes_symbol _) is rest = rest
+      by (adds_symbol _) is rest = rest
       by (adds_decl _ _) is rest = rest
       by (exports _ _ _) is rest = rest
       by (adds_child _ _) is rest = rest

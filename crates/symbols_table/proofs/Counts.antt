@@ -56,7 +56,7 @@ parent_is nodes n c formed inside child =
     let order = formed.ordered n c inside child in
     let found = last_found test c n order.0 (any_where_contained (children nodes n) c child) in
     let passes = last_passes test c found.0 found.1 in
-    let one : found.0 ≡ n = formed.alone found.0 n c (omega (arith, passes.0, order.1)) inside (Contains-from_any (λ x y. eqb-true x y) c
+    let one : found.0 ≡ n = formed.has_one_parent found.0 n c (omega (arith, passes.0, order.1)) inside (Contains-from_any (λ x y. eqb-true x y) c
     (children nodes found.0) passes.1) child in
     (order.0, found.1 ∙ ap Some one)
 
@@ -118,14 +118,14 @@ few_events tree text none formed =
     )
 
 -- A checked tree has no more symbols than nodes.
-pub few_symbols : (tree : Tree) (text : List ℕ) → IsFaultlessTree text tree.nodes.items → IsWellFormedTree tree.nodes.items
+pub has_at_most_as_many_symbols : (tree : Tree) (text : List ℕ) → IsFaultlessTree text tree.nodes.items → IsWellFormedTree tree.nodes.items
     → symbol_count (table_changes_from_tree tree) ≤ length tree.nodes.items
-few_symbols tree text none formed = omega (arith, symbols_by (tree_events tree), few_events tree text none formed)
+has_at_most_as_many_symbols tree text none formed = omega (arith, symbols_by (tree_events tree), few_events tree text none formed)
 
 -- A checked tree has no more declarations than nodes.
-pub few_declarations : (tree : Tree) (text : List ℕ) → IsFaultlessTree text tree.nodes.items → IsWellFormedTree tree.nodes.items
+pub has_at_most_as_many_declarations : (tree : Tree) (text : List ℕ) → IsFaultlessTree text tree.nodes.items → IsWellFormedTree tree.nodes.items
     → declaration_count (table_changes_from_tree tree) ≤ length tree.nodes.items
-few_declarations tree text none formed = omega (arith, (few_by (tree_events tree)).declarations, few_events tree text none formed)
+has_at_most_as_many_declarations tree text none formed = omega (arith, (few_by (tree_events tree)).declarations, few_events tree text none formed)
 
 -- A table with the symbols of the tree's changes has no more symbols and declarations than nodes.
 pub are_few : (tree : Tree) (text : List ℕ) (symbols : List Symbol) → IsFaultlessTree text tree.nodes.items → IsWellFormedTree tree.nodes.items
@@ -133,10 +133,10 @@ pub are_few : (tree : Tree) (text : List ℕ) (symbols : List Symbol) → IsFaul
     → ((s : SymbolId) (symbol : Symbol) → slice_get symbols s.0 ≡ Some symbol → symbol_decls symbol ≡ decls_after (table_changes_from_tree tree) s)
     → AreBoundedByNodes tree symbols
 are_few tree text symbols none formed counted borrowed_symbol = record {
-  few_symbols = omega (arith, counted, few_symbols tree text none formed);
-  few_declarations = omega (
+  has_at_most_as_many_symbols = omega (arith, counted, has_at_most_as_many_symbols tree text none formed);
+  has_at_most_as_many_declarations = omega (
     arith,
     module_declarations symbols (table_changes_from_tree tree) counted borrowed_symbol (sound_by (tree_events tree)),
-    few_declarations tree text none formed,
+    has_at_most_as_many_declarations tree text none formed,
   );
 }

@@ -4,8 +4,8 @@ use Rattle.std.specs.List.{filter_map, cons_option, sum_by}
 use Rattle.std.proofs.lemmas.List.{length_push}
 use Rattle.std.proofs.lemmas.List.Sums.{sum_by-cons}
 use Rattle.symbols_ast.specs.declared.ids.SymbolId.{SymbolId}
-use Rattle.symbols_table.specs.DeclViews.{Declaration, append_decl, last_decl, is_overload_after}
-use Rattle.symbols_table.specs.Changes.{Change, parents_after, makes_symbol, adds_decl, exports, adds_child, adds_member, maps, re_exports_all, some_if}
+use Rattle.symbols_table.specs.DeclViews.{Declaration, append_decl_with_overload_flag, last_decl, is_overload_after_decl}
+use Rattle.symbols_table.specs.Changes.{Change, parents_after, adds_symbol, adds_decl, exports, adds_child, adds_member, maps, re_exports_all, some_if}
 use Rattle.symbols_table.specs.Changes.{decl_added_by, decls_after}
 use Rattle.symbols_table.specs.declared.decl.symbol.Symbol.{Symbol}
 use Rattle.symbols_table.specs.Symbols.{symbol_decls}
@@ -16,10 +16,15 @@ use Rattle.symbols_table.proofs.Inside.{All-head, All-tail}
 use Rattle.symbols_table.proofs.CountsWeights.{same, sum_none, sum_same, sum-plus, sum-first, sum_as}
 
 -- Adding declarations to a list adds as many entries, whatever their flags.
-length_with : (before decls : List Declaration) → length (fold append_decl before decls) ≡ length before + length decls
+length_with : (before decls : List Declaration) → length (fold append_decl_with_overload_flag before decls) ≡ length before + length decls
 length_with before [] = omega arith
 length_with before (decl ∷ decls) =
-    omega (arith, length_with (append_decl before decl) decls, length_push before (record decl { has_overloads = is_overload_after (last_decl before) decl }))
+    omega (
+      arith,
+      length_with (append_decl_with_overload_flag before decl) decls,
+      length_push before
+          (record decl { has_overloads = is_overload_after_decl (last_decl before) decl }),
+    )
 
 abbrev pub symbol_at_number : ℕ → SymbolId
 symbol_at_number n = record { 0 = n }
@@ -50,7 +55,7 @@ decls_sum count (change ∷ changes) all =
     by (adds_decl t decl) fits rest =
         let parts = sum_as (decls_among (adds_decl t decl ∷ changes)) (λ n. same t.0 n + decls_among changes n) count (among_declares t decl changes) in
         omega (arith, parts, sum-plus (same t.0) (decls_among changes) count, sum_same t.0 count fits, rest)
-    by (makes_symbol _) fits rest = rest
+    by (adds_symbol _) fits rest = rest
     by (exports _ _ _) fits rest = rest
     by (adds_child _ _) fits rest = rest
     by (adds_member _ _) fits rest = rest
@@ -76,6 +81,6 @@ pub module_declarations : (symbols : List Symbol) (changes : List Change) → le
     → All (NamesSymbolsBelow (length (parents_after changes))) changes → count_of_declarations symbols ≡ declaration_count changes
 module_declarations symbols changes count borrowed_symbol all =
     let decls : ℕ → ℕ = λ n. length (decls_after changes (symbol_at_number n)) in
-    let name_order = sum_by_indices (λ (symbol : Symbol). length (symbol_decls symbol)) decls symbols
+    let names_are_in_insertion_order = sum_by_indices (λ (symbol : Symbol). length (symbol_decls symbol)) decls symbols
     (λ n symbol at. ap length (borrowed_symbol (symbol_at_number n) symbol at)) in
-    name_order ∙ ap (sum_below decls) count ∙ all_declarations (length (parents_after changes)) changes all
+    names_are_in_insertion_order ∙ ap (sum_below decls) count ∙ all_declarations (length (parents_after changes)) changes all

@@ -5,11 +5,13 @@ use Rattle.std.proofs.lemmas.List.{length-append}
 use Rattle.std.proofs.lemmas.List.Elements.{filter_map-append}
 use Rattle.symbols_ast.specs.declared.ids.SymbolId.{SymbolId}
 use Rattle.symbols_table.specs.DeclViews.{Declaration, is_definition, decl_name}
-use Rattle.symbols_table.specs.Changes.{Change, exports, adds_child, maps, parent_of_symbol_made_by, parents_after, mapped_symbol_after, exported_symbol}
+use Rattle.symbols_table.specs.Changes.{Change, exports, adds_child, maps, parent_of_symbol_made_by, parents_after, symbol_of_ident_after_changes}
+use Rattle.symbols_table.specs.Changes.{exported_symbol}
 use Rattle.symbols_table.specs.Changes.{has_function_decl}
 use Rattle.symbols_table.specs.Events.{DeclarationEvent, begins, declare, declare_alias, declare_unnamed, default, binds, member, expando, export, child, star}
 use Rattle.symbols_table.specs.Events.{EventEffect, empty_effect}
-use Rattle.symbols_table.specs.Events.{new_symbol_effect, redeclare_effect_or, existing_symbol_effect_or, new_member_changes, find_member_symbol, member_effect}
+use Rattle.symbols_table.specs.Events.{new_symbol_effect, effect_of_redeclaring_or, effect_of_existing_symbol_or, new_member_changes, find_member_symbol}
+use Rattle.symbols_table.specs.Events.{member_effect}
 use Rattle.symbols_table.specs.Events.{declare_effect, declare_alias_effect, default_export_effect, default_export_name}
 use Rattle.symbols_table.specs.Events.{expando_effect, effect_if_symbol, effect_of_event, changes_of_effects, symbol_of_event_at, effects_after_events}
 use Rattle.symbols_table.specs.Events.{changes_of_events, effect_of_changes, effect_yielding_symbol}
@@ -46,11 +48,11 @@ few_new before parent decl more quiet =
     let none = quiet (record { 0 = length (parents_after before) }) in
     record { symbols = omega (arith, none.symbols); declarations = omega (arith, none.declarations) }
 
-few_found : (found : Option SymbolId) (decl : Declaration) (row : EventEffect) → IsFew row.changes 1 → IsFew (redeclare_effect_or found decl row).changes 1
+few_found : (found : Option SymbolId) (decl : Declaration) (row : EventEffect) → IsFew row.changes 1 → IsFew (effect_of_redeclaring_or found decl row).changes 1
 few_found None decl row few = few
 few_found (Some s) decl row few = record { symbols = omega arith; declarations = omega arith }
 
-few_known : (found : Option SymbolId) (row : EventEffect) → IsFew row.changes 1 → IsFew (existing_symbol_effect_or found row).changes 1
+few_known : (found : Option SymbolId) (row : EventEffect) → IsFew row.changes 1 → IsFew (effect_of_existing_symbol_or found row).changes 1
 few_known None row few = few
 few_known (Some s) row few = record { symbols = omega arith; declarations = omega arith }
 
@@ -92,11 +94,12 @@ few_expando before (Some s) decl = few_function (has_function_decl before s) (me
 few_row : (before : List Change) (at : ℕ → Option SymbolId) (event : DeclarationEvent) → IsFew (effect_of_event before at event).changes (declaring event)
 few_row before at (begins decl) = few_new before None decl (λ _. []) (λ s. record { symbols = omega arith; declarations = omega arith })
 few_row before at (declare holder id decl) =
-    few_with 1 (at holder) (λ h. declare_effect before h id decl) (λ h. few_found (mapped_symbol_after before id) decl (new_symbol_effect before (Some h) decl
+    few_with 1 (at holder) (λ h. declare_effect before h id decl) (λ h. few_found (symbol_of_ident_after_changes before id) decl
+    (new_symbol_effect before (Some h) decl
     (λ s. maps id s ∷ [])) (few_new before (Some h) decl (λ s. maps id s ∷ []) (λ s. record { symbols = omega arith; declarations = omega arith })))
 few_row before at (declare_alias holder id decl) =
     few_with 1 (at holder) (λ h. declare_alias_effect before h id decl)
-    (λ h. few_known (mapped_symbol_after before id) (new_symbol_effect before (Some h) decl (λ s. maps id s ∷ []))
+    (λ h. few_known (symbol_of_ident_after_changes before id) (new_symbol_effect before (Some h) decl (λ s. maps id s ∷ []))
     (few_new before (Some h) decl (λ s. maps id s ∷ []) (λ s. record { symbols = omega arith; declarations = omega arith })))
 few_row before at (declare_unnamed holder decl) = few_with 1 (at holder) (λ h. new_symbol_effect before (Some h) decl (λ _. []))
     (λ h. few_new before (Some h) decl (λ _. []) (λ s. record { symbols = omega arith; declarations = omega arith }))
@@ -104,7 +107,7 @@ few_row before at (default holder decl) = few_with 1 (at holder) (λ h. default_
 few_row before at (binds id of) =
     few_with 0 (at of) (λ s. effect_yielding_symbol s (maps id s ∷ [])) (λ s. record { symbols = omega arith; declarations = omega arith })
 few_row before at (member holder decl is_static) = few_with 1 (at holder) (λ h. member_effect before h decl is_static) (λ h. few_member before h decl is_static)
-few_row before at (expando id decl) = few_expando before (mapped_symbol_after before id) decl
+few_row before at (expando id decl) = few_expando before (symbol_of_ident_after_changes before id) decl
 few_row before at (export holder name of) =
     few_with 0 (at holder) (λ h. effect_if_symbol (at of) (λ s. effect_of_changes (exports h name s ∷ [])))
     (λ h. few_with 0 (at of) (λ s. effect_of_changes (exports h name s ∷ [])) (λ s. record { symbols = omega arith; declarations = omega arith }))

@@ -18,11 +18,12 @@ use Rattle.symbols_nodes.specs.Expando.{Expando, expando_of_assignment}
 use Rattle.symbols_nodes.specs.NodeViews.{exported_ts_module}
 use Rattle.symbols_table.specs.declared.builder.scope.Scope.{Scope}
 use Rattle.symbols_table.specs.DeclViews.{DeclKindView, definition_of_node, declaration_of_kind, file_ref, all_names}
-use Rattle.symbols_table.specs.EventsByPosition.{EventsByPosition, events_if_some, events_of_each, range_or_empty, child_ident_id}
+use Rattle.symbols_table.specs.EventsByHolderAndStart.{EventsByHolderAndStart, events_if_some, events_of_each, range_or_empty, id_of_ident_child}
 use Rattle.symbols_table.specs.MemberEvents.{member_events_at, member_nodes}
-use Rattle.symbols_table.specs.DeclarationEvents.{maybe_exported_node, statement_range, is_exported, declare_and_add_events, declared_name, declaration_events}
+use Rattle.symbols_table.specs.DeclarationEvents.{maybe_exported_node, export_or_decl_range, is_exported, declare_and_add_events, declared_name}
+use Rattle.symbols_table.specs.DeclarationEvents.{declaration_events}
 use Rattle.symbols_table.specs.ModuleEvents.{import_dep_name, import_decl_events, import_specifier_events, import_specifier_events_at}
-use Rattle.symbols_table.specs.ModuleEvents.{new_exported_symbol_events, orig_name, orig_decl_kind}
+use Rattle.symbols_table.specs.ModuleEvents.{new_exported_symbol_events, orig_specifier_name, orig_specifier_decl_kind}
 use Rattle.symbols_table.specs.ModuleEvents.{export_named_specifier_events, export_specifier_events, export_specifier_events_at, bind_events_if}
 use Rattle.symbols_table.specs.ModuleEvents.{default_decl_events, default_export_events, default_expr_decl}
 use Rattle.symbols_table.specs.ModuleEvents.{export_assignment_events, import_equals_decl_kind, import_equals_alias_events, import_equals_events}
@@ -41,16 +42,17 @@ use Rattle.symbols_table.proofs.CountsParts.{light_child, light_field, light_exp
 -- ---- at most one event
 
 light_import : (src : List ℕ) (node : TreeNode) (kind : Kind) → IsLight (import_specifier_events src node kind) 1
-light_import src node kind = light_on (child_ident_id local_of node) (λ (id : Id). events_if_some (import_dep_name id kind) (import_decl_events src node id)) 1
+light_import src node kind = light_on (id_of_ident_child local_of node) (λ (id : Id). events_if_some (import_dep_name id kind)
+    (import_decl_events src node id)) 1
     (λ id at. light_on (import_dep_name id kind) (import_decl_events src node id) 1 (λ name is holder start. omega arith))
 
 light_specifier : (src : Option (List ℕ)) (node : TreeNode) (exported : Option (List ℕ)) (orig : Kind)
     → IsLight (export_named_specifier_events src node exported orig) 1
 light_specifier src node exported orig =
-    light_on (orig_name orig) (λ (name : List ℕ). events_if_some (orig_decl_kind src orig name) (export_as name)) 1
-    (λ name at. light_on (orig_decl_kind src orig name) (export_as name) 1 (λ kind is holder start. omega arith))
+    light_on (orig_specifier_name orig) (λ (name : List ℕ). events_if_some (orig_specifier_decl_kind src orig name) (export_as name)) 1
+    (λ name at. light_on (orig_specifier_decl_kind src orig name) (export_as name) 1 (λ kind is holder start. omega arith))
   where
-    export_as : List ℕ → DeclKindView → EventsByPosition
+    export_as : List ℕ → DeclKindView → EventsByHolderAndStart
     export_as name kind = new_exported_symbol_events (unwrap_or exported name) (declaration_of_kind kind (range_or_empty node))
 
 light_exported : (src : Option (List ℕ)) (node : TreeNode) (kind : Kind) → IsLight (export_specifier_events src node kind) 1
@@ -69,7 +71,7 @@ light_assignment expr _ = light_none 1
 light_import_equals : (node : TreeNode) (is_export : Bool) (entity : Option ℕ) (external : Option (String Global))
     → IsLight (import_equals_events node is_export entity external) 1
 light_import_equals node is_export entity external =
-    light_on (child_ident_id id_of node)
+    light_on (id_of_ident_child id_of node)
     (λ (id : Id). events_if_some (import_equals_decl_kind node entity external) (import_equals_alias_events node is_export id)) 1
     (λ id at. light_on (import_equals_decl_kind node entity external) (import_equals_alias_events node is_export id) 1 (λ kind is holder start.
     omega (arith, light_export is_export holder (string_bytes id.name) start)))
@@ -177,7 +179,7 @@ module _ (tree : Tree) (w : ℕ → ℕ) (weighs : (n : ℕ) (kind : Kind) → k
         ambient) (w n)
         (λ kind is. by kind (weighs n kind is) (light_body whole ambient levels))
       where
-        inner : ℕ → EventsByPosition
+        inner : ℕ → EventsByHolderAndStart
         inner = namespace_body_events_within block (node_at tree whole) ambient levels
 
         by : (kind : Kind) → suc (weights w (child_numbers kind)) ≤ w n → ((m : ℕ) → IsLight (inner m) (w m))
@@ -185,7 +187,7 @@ module _ (tree : Tree) (w : ℕ → ℕ) (weighs : (n : ℕ) (kind : Kind) → k
         by (Kind.Decl (Decl.TsModuleBlock items)) heavy rest = light_up (block (namespace_scope ambient) items.items) (weights w items.items) (w n)
             (omega (arith, heavy, weights-append w items.items [])) (light (namespace_scope ambient) items.items)
         by (Kind.Decl (Decl.TsNamespaceDecl id body)) heavy rest =
-            light_on (child_ident_id id_of (node_at tree n)) (namespace_name_part_events (node_at tree whole) (node_at tree n) (inner body)) (w n)
+            light_on (id_of_ident_child id_of (node_at tree n)) (namespace_name_part_events (node_at tree whole) (node_at tree n) (inner body)) (w n)
             (λ id at holder start. omega (arith, heavy, rest body start (start + 3)))
         by _ heavy rest = light_none (w n)
 
@@ -194,18 +196,19 @@ module _ (tree : Tree) (w : ℕ → ℕ) (weighs : (n : ℕ) (kind : Kind) → k
     light_namespace scope exported n kind is =
         let ambient = scope.ambient || is_ambient_namespace kind in
         let parts = weights w (child_numbers kind) in
-        let body : EventsByPosition = events_if_some (child_in_field (node_at tree n) body_node_of) (namespace_body_events block (node_at tree n) ambient) in
+        let body : EventsByHolderAndStart = events_if_some (child_in_field (node_at tree n) body_node_of)
+        (namespace_body_events block (node_at tree n) ambient) in
         let light_parts : IsLight body parts = light_child tree n kind body_node_of (namespace_body_events block (node_at tree n) ambient) parts is (λ c field.
         light_up (namespace_body_events block (node_at tree n) ambient (node_at tree c)) (w c) parts (omega (arith, rw field at (body_node_weighs w kind)))
         (light_body n ambient (length tree.nodes.items) c)) in
-        light_on (child_ident_id id_of (node_at tree n)) _ (w n) (λ (id : Id) at.
-        let decl = definition_of_node (maybe_exported_node exported (exported_ts_module (node_at tree n))) (statement_range exported (node_at tree n)) in
+        light_on (id_of_ident_child id_of (node_at tree n)) _ (w n) (λ (id : Id) at.
+        let decl = definition_of_node (maybe_exported_node exported (exported_ts_module (node_at tree n))) (export_or_decl_range exported (node_at tree n)) in
         light_up (declare_and_add_events (is_exported scope exported) (id_view id) decl body) (suc parts) (w n) (weighs n kind is)
         (light_declared (is_exported scope exported) (id_view id) decl body parts light_parts))
 
     -- ---- items
 
-    abbrev namespace_walk : Scope → Namespace → EventsByPosition
+    abbrev namespace_walk : Scope → Namespace → EventsByHolderAndStart
     namespace_walk scope namespace = events_if_some (kind_of namespace.decl) (namespace_events block scope namespace)
 
     light_found : (scope : Scope) (exported : Option TreeNode) (n : ℕ)
@@ -214,13 +217,13 @@ module _ (tree : Tree) (w : ℕ → ℕ) (weighs : (n : ℕ) (kind : Kind) → k
         light_on (kinds tree n) (namespace_events block scope (record { exported = exported; decl = node_at tree n })) (w n)
         (λ kind is. light_namespace scope exported n kind is)
 
-    light_other : (scope : Scope) (exported : Option TreeNode) (n k : ℕ) (kind : Kind) (other : EventsByPosition) → w n ≤ k → IsLight other k
+    light_other : (scope : Scope) (exported : Option TreeNode) (n k : ℕ) (kind : Kind) (other : EventsByHolderAndStart) → w n ≤ k → IsLight other k
         → IsLight (namespace_events_or (as_namespace exported (node_at tree n) kind) (namespace_walk scope) other) k
     light_other scope exported n k (Kind.Decl (Decl.TsModuleDecl _ _ _)) other le rest =
         light_up (namespace_walk scope (record { exported = exported; decl = node_at tree n })) (w n) k le (light_found scope exported n)
     light_other scope exported n k _ other le rest = rest
 
-    light_exported_namespace : (scope : Scope) (n : ℕ) (found : Option ℕ) (other : EventsByPosition) → weights w (option_to_list found) ≤ w n
+    light_exported_namespace : (scope : Scope) (n : ℕ) (found : Option ℕ) (other : EventsByHolderAndStart) → weights w (option_to_list found) ≤ w n
         → IsLight other (w n)
         → IsLight (namespace_events_or (option_and_then (exported_namespace (node_at tree n)) (node_in tree found)) (namespace_walk scope) other) (w n)
     light_exported_namespace scope n None other le rest = rest
@@ -265,5 +268,5 @@ module _ (tree : Tree) (w : ℕ → ℕ) (weighs : (n : ℕ) (kind : Kind) → k
       levels : ℕ
       levels = length tree.nodes.items
 
-      item : ℕ → EventsByPosition
+      item : ℕ → EventsByHolderAndStart
       item = item_events_within tree levels (module_scope tree)

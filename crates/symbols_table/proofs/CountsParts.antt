@@ -18,11 +18,12 @@ use Rattle.symbols_ast.specs.Ids.{IdView, id_view, ident_id}
 use Rattle.symbols_nodes.specs.NodeViews.{SymbolNodeView, ExportDeclView}
 use Rattle.symbols_table.specs.declared.builder.scope.Scope.{Scope}
 use Rattle.symbols_table.specs.DeclViews.{Declaration, definition_of_node}
-use Rattle.symbols_table.specs.EventsByPosition.{EventsByPosition, no_events_by_position, events_if_some, events_of_each, range_or_empty}
+use Rattle.symbols_table.specs.EventsByHolderAndStart.{EventsByHolderAndStart, no_events_by_holder_and_start, events_if_some, events_of_each, range_or_empty}
 use Rattle.symbols_table.specs.Patterns.{pattern_bindings, pattern_bindings_within, pattern_bindings_below, pattern_parts}
 use Rattle.symbols_table.specs.MemberEvents.{class_or_interface_member_nodes, member_nodes, member_event, constructor_param_events, constructor_param_events_at}
-use Rattle.symbols_table.specs.MemberEvents.{non_constructor_member, member_events, member_events_at}
-use Rattle.symbols_table.specs.DeclarationEvents.{maybe_exported_node, statement_range, is_exported, variable_node, export_if, child_and_export_events}
+use Rattle.symbols_table.specs.MemberEvents.{node_of_non_constructor_member, member_events, member_events_at}
+use Rattle.symbols_table.specs.DeclarationEvents.{maybe_exported_node, export_or_decl_range, is_exported, variable_node, export_event_if}
+use Rattle.symbols_table.specs.DeclarationEvents.{child_and_export_events}
 use Rattle.symbols_table.specs.DeclarationEvents.{declare_and_add_events, VariableStatement, binding_events, binding_events_at, declarator_events}
 use Rattle.symbols_table.specs.DeclarationEvents.{declarator_events_at}
 use Rattle.symbols_table.specs.DeclarationEvents.{variable_statement_events, export_decl_view_of_kind, declared_name, named_decl_events, declaration_events}
@@ -31,21 +32,22 @@ use Rattle.symbols_table.proofs.CountsFields.{body_weighs, name_weighs, class_we
 use Rattle.symbols_table.proofs.CountsEvents.{count, count-append}
 
 -- At most n of these events may declare something.
-abbrev pub IsLight : EventsByPosition → ℕ → Type 0
+abbrev pub IsLight : EventsByHolderAndStart → ℕ → Type 0
 IsLight walk n = (holder start : ℕ) → count (walk holder start) ≤ n
 
-pub light_up : (walk : EventsByPosition) (k n : ℕ) → k ≤ n → IsLight walk k → IsLight walk n
+pub light_up : (walk : EventsByHolderAndStart) (k n : ℕ) → k ≤ n → IsLight walk k → IsLight walk n
 light_up walk k n le light = λ holder start. omega (arith, le, light holder start)
 
-pub light_none : (n : ℕ) → IsLight no_events_by_position n
+pub light_none : (n : ℕ) → IsLight no_events_by_holder_and_start n
 light_none n = λ holder start. omega arith
 
-pub light_on : {A : Type 0} (found : Option A) (walk : A → EventsByPosition) (n : ℕ) → ((x : A) → found ≡ Some x → IsLight (walk x) n)
+pub light_on : {A : Type 0} (found : Option A) (walk : A → EventsByHolderAndStart) (n : ℕ) → ((x : A) → found ≡ Some x → IsLight (walk x) n)
     → IsLight (events_if_some found walk) n
 light_on None walk n light = light_none n
 light_on (Some x) walk n light = light x refl
 
-pub light_each : (walk : ℕ → EventsByPosition) (w : ℕ → ℕ) (xs : List ℕ) → ((x : ℕ) → IsLight (walk x) (w x)) → IsLight (events_of_each walk xs) (weights w xs)
+pub light_each : (walk : ℕ → EventsByHolderAndStart) (w : ℕ → ℕ) (xs : List ℕ) → ((x : ℕ) → IsLight (walk x) (w x)) → IsLight (events_of_each walk xs)
+    (weights w xs)
 light_each walk w [] light = light_none 0
 light_each walk w (x ∷ xs) light = λ holder start.
     let after = start + length (walk x holder start) in
@@ -55,7 +57,7 @@ weights_ones : (xs : List ℕ) → weights (λ _. 1) xs ≡ length xs
 weights_ones [] = refl
 weights_ones (x ∷ xs) = omega (arith, weights_ones xs)
 
-pub light_ones : (walk : ℕ → EventsByPosition) (xs : List ℕ) → ((x : ℕ) → IsLight (walk x) 1) → IsLight (events_of_each walk xs) (length xs)
+pub light_ones : (walk : ℕ → EventsByHolderAndStart) (xs : List ℕ) → ((x : ℕ) → IsLight (walk x) 1) → IsLight (events_of_each walk xs) (length xs)
 light_ones walk xs light = light_up (events_of_each walk xs) (weights (λ _. 1) xs) (length xs) (omega (arith, weights_ones xs))
     (light_each walk (λ _. 1) xs light)
 
@@ -67,7 +69,8 @@ node_at tree n = record { tree = tree; number = n }
 abbrev pub kinds : Tree → ℕ → Option Kind
 kinds tree n = kind_at tree.nodes.items n
 
-pub light_node : (tree : Tree) (found : Option ℕ) (walk : TreeNode → EventsByPosition) (k : ℕ) → ((n : ℕ) → found ≡ Some n → IsLight (walk (node_at tree n)) k)
+pub light_node : (tree : Tree) (found : Option ℕ) (walk : TreeNode → EventsByHolderAndStart) (k : ℕ) →
+    ((n : ℕ) → found ≡ Some n → IsLight (walk (node_at tree n)) k)
     → IsLight (events_if_some (node_in tree found) walk) k
 light_node tree None walk k light = light_none k
 light_node tree (Some n) walk k light = by (ltb n (length tree.nodes.items))
@@ -76,14 +79,14 @@ light_node tree (Some n) walk k light = by (ltb n (length tree.nodes.items))
     by true = light n refl
     by false = light_none k
 
-pub light_kind : (tree : Tree) (n : ℕ) (walk : TreeNode → Kind → EventsByPosition) (k : ℕ) → ((kind : Kind) → kinds tree n ≡ Some kind
+pub light_kind : (tree : Tree) (n : ℕ) (walk : TreeNode → Kind → EventsByHolderAndStart) (k : ℕ) → ((kind : Kind) → kinds tree n ≡ Some kind
     → IsLight (walk (node_at tree n) kind) k)
     → IsLight (events_if_some (node_in tree (Some n)) (λ (node : TreeNode). events_if_some (kind_of node) (walk node))) k
 light_kind tree n walk k light =
     light_node tree (Some n) (λ (node : TreeNode). events_if_some (kind_of node) (walk node)) k
     (λ m is. rw (← same_Some n m is) (light_on (kinds tree n) (walk (node_at tree n)) k light))
 
-pub light_child : (tree : Tree) (n : ℕ) (kind : Kind) (field : Kind → Option ℕ) (walk : TreeNode → EventsByPosition) (k : ℕ) → kinds tree n ≡ Some kind
+pub light_child : (tree : Tree) (n : ℕ) (kind : Kind) (field : Kind → Option ℕ) (walk : TreeNode → EventsByHolderAndStart) (k : ℕ) → kinds tree n ≡ Some kind
     → ((c : ℕ) → field kind ≡ Some c → IsLight (walk (node_at tree c)) k) → IsLight (events_if_some (child_in_field (node_at tree n) field) walk) k
 light_child tree n kind field walk k is light = rw is (light_node tree (field kind) walk k light)
 
@@ -91,7 +94,7 @@ and_then_is : (field : Kind → Option ℕ) (o : Option Kind) (c : ℕ) → opti
 and_then_is field None c is = absurd (none-some c is)
 and_then_is field (Some kind) c is = (kind, refl, is)
 
-pub light_field : (tree : Tree) (n : ℕ) (field : Kind → Option ℕ) (walk : TreeNode → EventsByPosition) (k : ℕ)
+pub light_field : (tree : Tree) (n : ℕ) (field : Kind → Option ℕ) (walk : TreeNode → EventsByHolderAndStart) (k : ℕ)
     → ((kind : Kind) (c : ℕ) → kinds tree n ≡ Some kind
     → field kind ≡ Some c → IsLight (walk (node_at tree c)) k) → IsLight (events_if_some (child_in_field (node_at tree n) field) walk) k
 light_field tree n field walk k light =
@@ -99,11 +102,11 @@ light_field tree n field walk k light =
 
 -- ---- declaring an identifier
 
-pub light_export : (test : Bool) (holder : ℕ) (name : List ℕ) (of : ℕ) → count (export_if test holder name of) ≡ 0
+pub light_export : (test : Bool) (holder : ℕ) (name : List ℕ) (of : ℕ) → count (export_event_if test holder name of) ≡ 0
 light_export true holder name of = refl
 light_export false holder name of = refl
 
-pub light_declared : (test : Bool) (id : IdView) (decl : Declaration) (inner : EventsByPosition) (k : ℕ) → IsLight inner k
+pub light_declared : (test : Bool) (id : IdView) (decl : Declaration) (inner : EventsByHolderAndStart) (k : ℕ) → IsLight inner k
     → IsLight (declare_and_add_events test id decl inner) (suc k)
 light_declared test id decl inner k light = λ holder start.
     omega (
@@ -134,7 +137,8 @@ module _ (tree : Tree) (w : ℕ → ℕ) (weighs : (n : ℕ) (kind : Kind) → k
             weights-append w params.items
                 (option_to_list body ++ []),
           )
-      by kind heavy = light_on (non_constructor_member (node_at tree n) kind) (λ (m : SymbolNodeView × Bool). member_event m.0 (node_at tree n) m.1) (w n)
+      by kind heavy = light_on (node_of_non_constructor_member (node_at tree n) kind) (λ (m : SymbolNodeView × Bool). member_event m.0 (node_at tree n) m.1)
+          (w n)
           (λ m is holder start. omega arith)
 
   -- The body list of a node weighs at most as much as the node.
@@ -201,7 +205,7 @@ module _ (tree : Tree) (w : ℕ → ℕ) (weighs : (n : ℕ) (kind : Kind) → k
         light_node tree (Some n) (binding_events variables declarator) 1 (λ c is. light_on (option_and_then ident_id (kinds tree c)) _ 1 (λ (id : Id) at.
         light_declared (is_exported scope exported) (id_view id)
         (definition_of_node (variable_node exported is_using (node_at tree m) declarator (node_at tree c))
-        (range_or_empty declarator)) no_events_by_position 0 (light_none 0)))
+        (range_or_empty declarator)) no_events_by_holder_and_start 0 (light_none 0)))
 
     light_declarator : (n : ℕ) → IsLight (declarator_events_at variables n) (w n)
     light_declarator n = light_node tree (Some n) (declarator_events variables) (w n)
@@ -211,7 +215,7 @@ module _ (tree : Tree) (w : ℕ → ℕ) (weighs : (n : ℕ) (kind : Kind) → k
         light_up (bindings n (node_at tree p)) (length leaves) (w n) (omega (arith, name, weighs n kind is, leaves_weigh (length tree.nodes.items) p))
         (light_ones (binding_events_at variables (node_at tree n)) leaves (light_binding (node_at tree n))))))
       where
-        bindings : ℕ → TreeNode → EventsByPosition
+        bindings : ℕ → TreeNode → EventsByHolderAndStart
         bindings n pattern = events_of_each (binding_events_at variables (node_at tree n)) (pattern_bindings tree pattern.number)
 
     light_variables : (kind : Kind) → kinds tree m ≡ Some kind → IsLight (variable_statement_events variables) (weights w (decls_of kind))
@@ -224,15 +228,15 @@ module _ (tree : Tree) (w : ℕ → ℕ) (weighs : (n : ℕ) (kind : Kind) → k
   light_named scope exported n kind form is =
       light_on (declared_name (node_at tree n)) walk (w n) (λ id at. light_up (walk id) (suc (weights w (child_numbers kind))) (w n) (weighs n kind is)
       (light_declared (is_exported scope exported) (id_view id)
-      (definition_of_node (maybe_exported_node exported form) (statement_range exported (node_at tree n))) members
+      (definition_of_node (maybe_exported_node exported form) (export_or_decl_range exported (node_at tree n))) members
       (weights w (child_numbers kind)) (light_members n kind is)))
     where
-      members : EventsByPosition
+      members : EventsByHolderAndStart
       members = events_of_each (member_events_at tree) (member_nodes (node_at tree n))
 
-      walk : Id → EventsByPosition
+      walk : Id → EventsByHolderAndStart
       walk id = declare_and_add_events (is_exported scope exported) (id_view id)
-          (definition_of_node (maybe_exported_node exported form) (statement_range exported (node_at tree n))) members
+          (definition_of_node (maybe_exported_node exported form) (export_or_decl_range exported (node_at tree n))) members
 
   pub light_declaration : (scope : Scope) (exported : Option TreeNode) (n : ℕ) (kind : Kind) → kinds tree n ≡ Some kind
       → IsLight (declaration_events scope exported (node_at tree n) kind) (w n)

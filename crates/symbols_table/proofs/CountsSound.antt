@@ -9,11 +9,12 @@ use Rattle.std.proofs.lemmas.List.Elements.{All-nil, All-cons, All-append, All-w
 use Rattle.symbols_ast.specs.declared.ids.SymbolId.{SymbolId}
 use Rattle.symbols_ast.specs.Ids.{IdView}
 use Rattle.symbols_table.specs.DeclViews.{Declaration, is_definition, decl_name}
-use Rattle.symbols_table.specs.Changes.{Change, makes_symbol, adds_decl, exports, adds_child, adds_member, maps, re_exports_all}
-use Rattle.symbols_table.specs.Changes.{parent_of_symbol_made_by, parents_after, mapped_symbol_after, exported_symbol, child_named, has_function_decl}
+use Rattle.symbols_table.specs.Changes.{Change, adds_symbol, adds_decl, exports, adds_child, adds_member, maps, re_exports_all}
+use Rattle.symbols_table.specs.Changes.{parent_of_symbol_made_by, parents_after, symbol_of_ident_after_changes, exported_symbol, first_child_named}
+use Rattle.symbols_table.specs.Changes.{has_function_decl}
 use Rattle.symbols_table.specs.Events.{DeclarationEvent, begins, declare, declare_alias, declare_unnamed, default, binds, member, expando, export, child}
 use Rattle.symbols_table.specs.Events.{star, EventEffect, empty_effect, effect_of_changes, effect_yielding_symbol, next_symbol_id, new_symbol_effect}
-use Rattle.symbols_table.specs.Events.{redeclare_effect_or, existing_symbol_effect_or}
+use Rattle.symbols_table.specs.Events.{effect_of_redeclaring_or, effect_of_existing_symbol_or}
 use Rattle.symbols_table.specs.Events.{new_member_changes, find_member_symbol, member_effect, declare_effect, declare_alias_effect, default_export_effect}
 use Rattle.symbols_table.specs.Events.{default_export_name}
 use Rattle.symbols_table.specs.Events.{expando_effect, effect_if_symbol, effect_of_event, changes_of_effects, symbol_of_event_at, effects_after_events}
@@ -30,7 +31,7 @@ below_up n k None le h = tt
 below_up n k (Some s) le h = omega arith
 
 fits_up : (n k : ℕ) → n ≤ k → (change : Change) → NamesSymbolsBelow n change → NamesSymbolsBelow k change
-fits_up n k le (makes_symbol _) h = tt
+fits_up n k le (adds_symbol _) h = tt
 fits_up n k le (adds_decl s _) h = omega arith
 fits_up n k le (exports s _ x) h = (omega (arith, h.0), omega (arith, h.1))
 fits_up n k le (adds_child s x) h = (omega (arith, h.0), omega (arith, h.1))
@@ -51,11 +52,11 @@ row_nothing : (n : ℕ) → RowFits n empty_effect
 row_nothing n = λ k le. (All-nil (NamesSymbolsBelow k), tt)
 
 row_found : (n : ℕ) (found : Option SymbolId) (decl : Declaration) (row : EventEffect) → IfSome found (Below n) → RowFits n row
-    → RowFits n (redeclare_effect_or found decl row)
+    → RowFits n (effect_of_redeclaring_or found decl row)
 row_found n None decl row inside fits = fits
 row_found n (Some s) decl row inside fits = λ k le. (all_one k (adds_decl s decl) (omega arith), omega arith)
 
-row_known : (n : ℕ) (found : Option SymbolId) (row : EventEffect) → IfSome found (Below n) → RowFits n row → RowFits n (existing_symbol_effect_or found row)
+row_known : (n : ℕ) (found : Option SymbolId) (row : EventEffect) → IfSome found (Below n) → RowFits n row → RowFits n (effect_of_existing_symbol_or found row)
 row_known n None row inside fits = fits
 row_known n (Some s) row inside fits = λ k le. (All-nil (NamesSymbolsBelow k), omega arith)
 
@@ -89,7 +90,7 @@ module _ (before : List Change) (n : ℕ) (is : n ≡ length (parents_after befo
       let s = next_symbol_id before in
       let room : n < k = omega arith in
       let inside : s.0 < k = omega (arith, is) in (
-        All-cons (NamesSymbolsBelow k) (makes_symbol parent) (adds_decl s decl ∷ more s) tt
+        All-cons (NamesSymbolsBelow k) (adds_symbol parent) (adds_decl s decl ∷ more s) tt
             (All-cons (NamesSymbolsBelow k) (adds_decl s decl) (more s) inside (fits k s room inside)),
         inside,
       )
@@ -103,7 +104,7 @@ module _ (before : List Change) (n : ℕ) (is : n ≡ length (parents_after befo
 
   found_below : (holder : SymbolId) (is_static : Bool) (name : Option (List ℕ)) → IfSome (find_member_symbol before holder is_static name) (Below n)
   found_below holder is_static None = tt
-  found_below holder true (Some name) = option_or_below n (exported_symbol before holder name) (child_named before holder name)
+  found_below holder true (Some name) = option_or_below n (exported_symbol before holder name) (first_child_named before holder name)
       (exported_inside n before holder name sound) (child_inside n before holder name sound)
   found_below holder false (Some name) = member_inside n before holder name sound
 
@@ -128,11 +129,11 @@ module _ (before : List Change) (n : ℕ) (is : n ≡ length (parents_after befo
   row_fits : (at : ℕ → Option SymbolId) → ((index : ℕ) → IfSome (at index) (Below n)) → (event : DeclarationEvent) → RowFits n (effect_of_event before at event)
   row_fits at inside (begins decl) = row_new None decl (λ _. []) (λ k s room below. All-nil (NamesSymbolsBelow k))
   row_fits at inside (declare holder id decl) =
-      row_with n (at holder) (λ h. declare_effect before h id decl) (inside holder) (λ h l. row_found n (mapped_symbol_after before id) decl
+      row_with n (at holder) (λ h. declare_effect before h id decl) (inside holder) (λ h l. row_found n (symbol_of_ident_after_changes before id) decl
       (new_symbol_effect before (Some h) decl (λ s. maps id s ∷ [])) (mapped_inside n before id sound) (row_mapped h id decl))
   row_fits at inside (declare_alias holder id decl) =
       row_with n (at holder) (λ h. declare_alias_effect before h id decl) (inside holder) (λ h l.
-      row_known n (mapped_symbol_after before id) (new_symbol_effect before (Some h) decl (λ s. maps id s ∷ [])) (mapped_inside n before id sound)
+      row_known n (symbol_of_ident_after_changes before id) (new_symbol_effect before (Some h) decl (λ s. maps id s ∷ [])) (mapped_inside n before id sound)
       (row_mapped h id decl))
   row_fits at inside (declare_unnamed holder decl) =
       row_with n (at holder) (λ h. new_symbol_effect before (Some h) decl (λ _. [])) (inside holder)
@@ -142,7 +143,7 @@ module _ (before : List Change) (n : ℕ) (is : n ≡ length (parents_after befo
       (λ s l k le. (all_one k (maps id s) (omega arith), omega arith))
   row_fits at inside (member holder decl is_static) =
       row_with n (at holder) (λ h. member_effect before h decl is_static) (inside holder) (λ h l. row_member h decl is_static l)
-  row_fits at inside (expando id decl) = row_expando (mapped_symbol_after before id) decl (mapped_inside n before id sound)
+  row_fits at inside (expando id decl) = row_expando (symbol_of_ident_after_changes before id) decl (mapped_inside n before id sound)
   row_fits at inside (export holder name of) =
       row_with n (at holder) (λ h. effect_if_symbol (at of) (λ s. effect_of_changes (exports h name s ∷ []))) (inside holder) (λ h l.
       row_with n (at of) (λ s. effect_of_changes (exports h name s ∷ [])) (inside of)

@@ -10,7 +10,7 @@ use Rattle.symbols_table.specs.Changes.{parents_after}
 use Rattle.symbols_table.specs.DeclViews.{Declaration}
 use Rattle.symbols_table.specs.Events.{DeclarationEvent, EventEffect, member, member_effect, declare, declare_effect, effect_of_event, changes_of_effects}
 use Rattle.symbols_table.specs.Events.{symbol_of_event_at, effects_after_events}
-use Rattle.symbols_table.specs.EventsByPosition.{EventsByPosition}
+use Rattle.symbols_table.specs.EventsByHolderAndStart.{EventsByHolderAndStart}
 use Rattle.symbols_table.specs.inner.Tables.{HasAppliedChanges, AppliesEffects, AppliesEventsUnderHolder}
 use Rattle.symbols_table.proofs.Rows.{effects_after_events-step, effects_after_events-nil, effects_after_events-append, symbol_of_event_at-push}
 use Rattle.symbols_table.proofs.Rows.{symbol_at_retained, symbol_at_after, parents_after_grow}
@@ -24,7 +24,8 @@ module _ (rows : List EventEffect) (event : DeclarationEvent) (row : EventEffect
   event_read new is = rw (effects_after_events-step rows event [] row reads, effects_after_events-nil (rows ++ row ∷ [])) (one_read new rows row is)
 
   -- A call applies one event, and a further call applies others under the same holder.
-  pub event_then : {A : Type 0} (r : Result A BuildFault) (limit : ℕ) (now new : ModuleBuilder) (walk : EventsByPosition) (holder : SymbolId) (h start : ℕ)
+  pub event_then : {A : Type 0} (r : Result A BuildFault) (limit : ℕ) (now new : ModuleBuilder) (walk : EventsByHolderAndStart) (holder : SymbolId)
+      (h start : ℕ)
       → now.setting.limit ≡ limit → start ≡ length rows + 1
       → HasAppliedChanges now (changes_of_effects rows ++ row.changes) → symbol_of_event_at rows h ≡ Some holder
       → AppliesEventsUnderHolder r now new walk holder
@@ -42,7 +43,7 @@ module _ (rows : List EventEffect) (event : DeclarationEvent) (row : EventEffect
       → effects_after_events rows (event ∷ (inner ++ rest)) ≡ effects_after_events (effects_after_events (rows ++ row ∷ []) inner) rest
   around_rows inner rest = effects_after_events-step rows event (inner ++ rest) row reads ∙ effects_after_events-append (rows ++ row ∷ []) inner rest
 
-  pub inner_read : {A : Type 0} (r : Result A BuildFault) (now new : ModuleBuilder) (walk : EventsByPosition) (s : SymbolId)
+  pub inner_read : {A : Type 0} (r : Result A BuildFault) (now new : ModuleBuilder) (walk : EventsByHolderAndStart) (s : SymbolId)
       → HasAppliedChanges now (changes_of_effects rows ++ row.changes) → row.symbol ≡ Some s → AppliesEventsUnderHolder r now new walk s
       → AppliesEffects r now.setting.limit new (effects_after_events (rows ++ row ∷ []) (walk (length rows) (length rows + 1)))
   inner_read r now new walk s is of next =
@@ -50,7 +51,7 @@ module _ (rows : List EventEffect) (event : DeclarationEvent) (row : EventEffect
       subst P (length_push rows row) (next (rows ++ row ∷ []) (length rows) (one_read now rows row is) (symbol_of_event_at-push rows row ∙ of))
 
   pub inner_fault : (A : Type 0) {B : Type 0} (r : Result B BuildFault) (limit : ℕ) (now next
-      new : ModuleBuilder) (walk : EventsByPosition) (s : SymbolId) (rest : List DeclarationEvent) (fault : BuildFault) → now.setting.limit ≡ limit
+      new : ModuleBuilder) (walk : EventsByHolderAndStart) (s : SymbolId) (rest : List DeclarationEvent) (fault : BuildFault) → now.setting.limit ≡ limit
       → HasAppliedChanges now (changes_of_effects rows ++ row.changes) → row.symbol ≡ Some s → IsErrAnd r (λ e. e ≡ fault)
       → AppliesEventsUnderHolder {A = A} (Err fault) now next walk s
       → AppliesEffects r limit new (effects_after_events rows (event ∷ (walk (length rows) (length rows + 1) ++ rest)))

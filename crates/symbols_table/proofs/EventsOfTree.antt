@@ -25,17 +25,18 @@ use Rattle.symbols_table.specs.declared.builder.scope.Scope.{Scope}
 use Rattle.symbols_table.specs.DeclViews.{Declaration, DeclKindView, definition_of_node, declaration_of_kind, decl_kind_node, file_ref, all_names, target}
 use Rattle.symbols_table.specs.Events.{DeclarationEvent, begins, declare, declare_alias, declare_unnamed, default, binds, member, expando, export, child, star}
 use Rattle.symbols_table.specs.Laws.{IsTreeNode, IsDeclaredInTree, IsExportStarInTree}
-use Rattle.symbols_table.specs.EventsByPosition.{EventsByPosition, no_events_by_position, events_if_some, events_of_each, range_or_empty, child_ident_id}
+use Rattle.symbols_table.specs.EventsByHolderAndStart.{EventsByHolderAndStart, no_events_by_holder_and_start, events_if_some, events_of_each, range_or_empty}
+use Rattle.symbols_table.specs.EventsByHolderAndStart.{id_of_ident_child}
 use Rattle.symbols_table.specs.Patterns.{pattern_bindings}
-use Rattle.symbols_table.specs.MemberEvents.{member_nodes, member_event, constructor_param_events, constructor_param_events_at, non_constructor_member}
+use Rattle.symbols_table.specs.MemberEvents.{member_nodes, member_event, constructor_param_events, constructor_param_events_at, node_of_non_constructor_member}
 use Rattle.symbols_table.specs.MemberEvents.{member_events, member_events_at}
-use Rattle.symbols_table.specs.DeclarationEvents.{maybe_exported_node, unexported_node_view, statement_range, is_exported, variable_node, export_if}
+use Rattle.symbols_table.specs.DeclarationEvents.{maybe_exported_node, unexported_node_view, export_or_decl_range, is_exported, variable_node, export_event_if}
 use Rattle.symbols_table.specs.DeclarationEvents.{child_and_export_events, declare_and_add_events, VariableStatement, binding_events, binding_events_at}
 use Rattle.symbols_table.specs.DeclarationEvents.{declarator_events}
 use Rattle.symbols_table.specs.DeclarationEvents.{declarator_events_at, variable_statement_events, export_decl_view_of_kind, declared_name, named_decl_events}
 use Rattle.symbols_table.specs.DeclarationEvents.{declaration_events}
 use Rattle.symbols_table.specs.ModuleEvents.{import_dep_name, import_decl_events, import_specifier_events, import_specifier_events_at}
-use Rattle.symbols_table.specs.ModuleEvents.{new_exported_symbol_events, orig_name, orig_decl_kind}
+use Rattle.symbols_table.specs.ModuleEvents.{new_exported_symbol_events, orig_specifier_name, orig_specifier_decl_kind}
 use Rattle.symbols_table.specs.ModuleEvents.{export_named_specifier_events, export_specifier_events, export_specifier_events_at, bind_events_if}
 use Rattle.symbols_table.specs.ModuleEvents.{default_decl_events, default_export_events, default_expr_decl}
 use Rattle.symbols_table.specs.ModuleEvents.{export_assignment_events, import_equals_decl_kind, import_equals_alias_events, import_equals_events}
@@ -64,7 +65,7 @@ IsEventOf tree (child _ _) = Unit {0}
 abbrev pub AreInTree : Tree → List DeclarationEvent → Type 0
 AreInTree tree events = All (IsEventOf tree) events
 
-abbrev pub IsInTree : Tree → EventsByPosition → Type 0
+abbrev pub IsInTree : Tree → EventsByHolderAndStart → Type 0
 IsInTree tree walk = (holder start : ℕ) → AreInTree tree (walk holder start)
 
 -- The nodes of a declaration's kind are nodes of the tree.
@@ -84,20 +85,20 @@ module _ (tree : Tree) where
   in_tree_append : (es fs : List DeclarationEvent) → AreInTree tree es → AreInTree tree fs → AreInTree tree (es ++ fs)
   in_tree_append es fs first rest = All-append (IsEventOf tree) es fs first rest
 
-  in_tree_none : IsInTree tree no_events_by_position
+  in_tree_none : IsInTree tree no_events_by_holder_and_start
   in_tree_none = λ holder start. in_tree_nil
 
-  in_tree_on : {A : Type 0} (found : Option A) (walk : A → EventsByPosition) → ((x : A) → found ≡ Some x → IsInTree tree (walk x))
+  in_tree_on : {A : Type 0} (found : Option A) (walk : A → EventsByHolderAndStart) → ((x : A) → found ≡ Some x → IsInTree tree (walk x))
       → IsInTree tree (events_if_some found walk)
   in_tree_on None walk local_name_bytes = in_tree_none
   in_tree_on (Some x) walk local_name_bytes = local_name_bytes x refl
 
-  in_tree_if : {A : Type 0} (P : A → Type 0) (found : Option A) (walk : A → EventsByPosition) → IfSome found P → ((x : A) → P x → IsInTree tree (walk x))
+  in_tree_if : {A : Type 0} (P : A → Type 0) (found : Option A) (walk : A → EventsByHolderAndStart) → IfSome found P → ((x : A) → P x → IsInTree tree (walk x))
       → IsInTree tree (events_if_some found walk)
   in_tree_if P None walk is local_name_bytes = in_tree_none
   in_tree_if P (Some x) walk is local_name_bytes = local_name_bytes x is
 
-  in_tree_each : (walk : ℕ → EventsByPosition) (xs : List ℕ) → ((x : ℕ) → IsInTree tree (walk x)) → IsInTree tree (events_of_each walk xs)
+  in_tree_each : (walk : ℕ → EventsByHolderAndStart) (xs : List ℕ) → ((x : ℕ) → IsInTree tree (walk x)) → IsInTree tree (events_of_each walk xs)
   in_tree_each walk [] local_name_bytes = in_tree_none
   in_tree_each walk (x ∷ xs) local_name_bytes = λ holder start.
       let after = start + length (walk x holder start) in
@@ -109,7 +110,7 @@ module _ (tree : Tree) where
   abbrev IsInside : ℕ → Type 0
   IsInside n = n < length tree.nodes.items
 
-  in_tree_node : (found : Option ℕ) (walk : TreeNode → EventsByPosition) → ((n : ℕ) → IsInside n → IsInTree tree (walk (node_at tree n)))
+  in_tree_node : (found : Option ℕ) (walk : TreeNode → EventsByHolderAndStart) → ((n : ℕ) → IsInside n → IsInTree tree (walk (node_at tree n)))
       → IsInTree tree (events_if_some (node_in tree found) walk)
   in_tree_node None walk local_name_bytes = in_tree_none
   in_tree_node (Some n) walk local_name_bytes = by (ltb n (length tree.nodes.items)) refl
@@ -118,7 +119,7 @@ module _ (tree : Tree) where
       by true is = local_name_bytes n ((Decides-ltb n (length tree.nodes.items)).0 is)
       by false is = in_tree_none
 
-  in_tree_kind : (found : Option ℕ) (walk : TreeNode → Kind → EventsByPosition)
+  in_tree_kind : (found : Option ℕ) (walk : TreeNode → Kind → EventsByHolderAndStart)
       → ((n : ℕ) (kind : Kind) → IsInside n → kinds tree n ≡ Some kind → IsInTree tree (walk (node_at tree n) kind))
       → IsInTree tree (events_if_some (node_in tree found) (λ (node : TreeNode). events_if_some (kind_of node) (walk node)))
   in_tree_kind found walk local_name_bytes =
@@ -152,15 +153,15 @@ module _ (tree : Tree) where
   in_tree_form None form is local_name_bytes = in_tree_other form local_name_bytes
   in_tree_form (Some node) form is local_name_bytes = All-cons (IsTreeNode tree) node (export_decl_nodes form) is local_name_bytes
 
-  explicit_export : (test : Bool) (holder : ℕ) (name : List ℕ) (of : ℕ) → AreInTree tree (export_if test holder name of)
+  explicit_export : (test : Bool) (holder : ℕ) (name : List ℕ) (of : ℕ) → AreInTree tree (export_event_if test holder name of)
   explicit_export true holder name of = in_tree_one (export holder name of) tt
   explicit_export false holder name of = in_tree_nil
 
-  in_tree_declared : (test : Bool) (id : IdView) (decl : Declaration) (inner : EventsByPosition) → IsDeclaredInTree tree decl → IsInTree tree inner
+  in_tree_declared : (test : Bool) (id : IdView) (decl : Declaration) (inner : EventsByHolderAndStart) → IsDeclaredInTree tree decl → IsInTree tree inner
       → IsInTree tree (declare_and_add_events test id decl inner)
   in_tree_declared test id decl inner is local_name_bytes = λ holder start.
       let last = child_and_export_events test holder id.name start in
-      let added : AreInTree tree last = in_tree_cons (child holder start) (export_if test holder id.name start) tt
+      let added : AreInTree tree last = in_tree_cons (child holder start) (export_event_if test holder id.name start) tt
       (explicit_export test holder id.name start) in
       in_tree_cons (declare holder id decl) (inner start (start + 1) ++ last) is
       (in_tree_append (inner start (start + 1)) last (local_name_bytes start (start + 1)) added)
@@ -177,7 +178,7 @@ module _ (tree : Tree) where
       by m inside _ = in_tree_none
 
   simple_in_tree : (n : ℕ) → All (IsTreeNode tree) (node_at tree n ∷ []) → (kind : Kind)
-      → IfSome (non_constructor_member (node_at tree n) kind) (λ (m : SymbolNodeView × Bool). All (IsTreeNode tree) (decl_nodes m.0))
+      → IfSome (node_of_non_constructor_member (node_at tree n) kind) (λ (m : SymbolNodeView × Bool). All (IsTreeNode tree) (decl_nodes m.0))
   simple_in_tree n here (Kind.Member (Member.ClassMethod _ _ _ _ _)) = here
   simple_in_tree n here (Kind.Member (Member.ClassProp _ _ _ _ _)) = here
   simple_in_tree n here (Kind.Member (Member.AutoAccessor _ _ _ _ _)) = here
@@ -199,7 +200,7 @@ module _ (tree : Tree) where
           (events_of_each (constructor_param_events_at tree) params.items holder (start + 1)) (one_node m inside)
           (in_tree_each (constructor_param_events_at tree) params.items in_tree_param holder (start + 1))
       by m inside kind =
-          in_tree_if (λ (found : SymbolNodeView × Bool). All (IsTreeNode tree) (decl_nodes found.0)) (non_constructor_member (node_at tree m) kind)
+          in_tree_if (λ (found : SymbolNodeView × Bool). All (IsTreeNode tree) (decl_nodes found.0)) (node_of_non_constructor_member (node_at tree m) kind)
           (λ (found : SymbolNodeView × Bool). member_event found.0 (node_at tree m) found.1) (simple_in_tree m (one_node m inside) kind)
           (λ found local_name_bytes holder start. in_tree_one (member holder (definition_of_node found.0 (range_or_empty (node_at tree m))) found.1)
           local_name_bytes)
@@ -226,7 +227,8 @@ module _ (tree : Tree) where
       binding m at n = in_tree_node (Some n) (binding_events vars (node_at tree m))
           (λ c here. in_tree_on (option_and_then ident_id (kinds tree c)) _ (λ (id : Id) found.
           in_tree_declared (is_exported scope exported) (id_view id) (definition_of_node (variable_node exported is_using (node_at tree k) (node_at tree m)
-          (node_at tree c)) (range_or_empty (node_at tree m))) no_events_by_position (in_tree_variable exported is_using k m c is inside at here) in_tree_none))
+          (node_at tree c)) (range_or_empty
+          (node_at tree m))) no_events_by_holder_and_start (in_tree_variable exported is_using k m c is inside at here) in_tree_none))
 
       declarator : (n : ℕ) → IsInTree tree (declarator_events_at vars n)
       declarator n = in_tree_node (Some n) (declarator_events vars) (λ m at.
@@ -253,7 +255,7 @@ module _ (tree : Tree) where
       (named_decl_events scope exported (node_at tree n)) (named_in_tree n (one_node n inside) kind) (λ form local_name_bytes.
       in_tree_on (declared_name (node_at tree n)) _ (λ (id : Id) at.
       in_tree_declared (is_exported scope exported) (id_view id)
-      (definition_of_node (maybe_exported_node exported form) (statement_range exported (node_at tree n)))
+      (definition_of_node (maybe_exported_node exported form) (export_or_decl_range exported (node_at tree n)))
       (events_of_each (member_events_at tree) (member_nodes (node_at tree n))) (in_tree_form exported form is local_name_bytes)
       (in_tree_members (node_at tree n))))
 
@@ -261,7 +263,8 @@ module _ (tree : Tree) where
 
   in_tree_import : (src : List ℕ) (n : ℕ) → IsInTree tree (import_specifier_events_at src tree n)
   in_tree_import src n = in_tree_kind (Some n) (import_specifier_events src) (λ m kind inside is.
-      in_tree_on (child_ident_id local_of (node_at tree m)) (λ (id : Id). events_if_some (import_dep_name id kind) (import_decl_events src (node_at tree m) id))
+      in_tree_on (id_of_ident_child local_of (node_at tree m)) (λ (id : Id). events_if_some (import_dep_name id kind)
+      (import_decl_events src (node_at tree m) id))
       (λ id at.
       in_tree_on (import_dep_name id kind) (import_decl_events src (node_at tree m) id)
       (λ name here holder start. in_tree_one (declare holder (id_view id) (declaration_of_kind (file_ref name src) (range_or_empty (node_at tree m))))
@@ -271,7 +274,7 @@ module _ (tree : Tree) where
   in_tree_named_export name decl is = λ holder start.
       in_tree_cons (declare_unnamed holder decl) (export holder name start ∷ []) is (in_tree_one (export holder name start) tt)
 
-  orig_in_tree : (src : Option (List ℕ)) (orig : Kind) (name : List ℕ) → IfSome (orig_decl_kind src orig name) (AreNodesOf tree)
+  orig_in_tree : (src : Option (List ℕ)) (orig : Kind) (name : List ℕ) → IfSome (orig_specifier_decl_kind src orig name) (AreNodesOf tree)
   orig_in_tree (Some text) orig name = no_nodes
   orig_in_tree None orig name = by (ident_id orig)
     where
@@ -282,8 +285,8 @@ module _ (tree : Tree) where
   in_tree_specifier : (src : Option (List ℕ)) (node : TreeNode) (exported : Option (List ℕ)) (orig : Kind)
       → IsInTree tree (export_named_specifier_events src node exported orig)
   in_tree_specifier src node exported orig =
-      in_tree_on (orig_name orig) _ (λ (name : List ℕ) at.
-      in_tree_if (AreNodesOf tree) (orig_decl_kind src orig name) _ (orig_in_tree src orig name)
+      in_tree_on (orig_specifier_name orig) _ (λ (name : List ℕ) at.
+      in_tree_if (AreNodesOf tree) (orig_specifier_decl_kind src orig name) _ (orig_in_tree src orig name)
       (λ (kind : DeclKindView) local_name_bytes. in_tree_named_export (unwrap_or exported name) (declaration_of_kind kind (range_or_empty node))
       local_name_bytes))
 
@@ -337,12 +340,12 @@ module _ (tree : Tree) where
   in_tree_import_equals : (node : TreeNode) (is_export : Bool) (entity : Option ℕ) (external : Option (String Global))
       → IsInTree tree (import_equals_events node is_export entity external)
   in_tree_import_equals node is_export entity external =
-      in_tree_on (child_ident_id id_of node) _ (λ (id : Id) at.
+      in_tree_on (id_of_ident_child id_of node) _ (λ (id : Id) at.
       in_tree_if (AreNodesOf tree) (import_equals_decl_kind node entity external) (import_equals_alias_events node is_export id)
       (alias_in_tree node entity external)
       (λ (kind : DeclKindView) local_name_bytes holder start.
       in_tree_cons (declare_alias holder (id_view id) (declaration_of_kind kind (range_or_empty node)))
-      (export_if is_export holder (string_bytes id.name) start)
+      (export_event_if is_export holder (string_bytes id.name) start)
       local_name_bytes (explicit_export is_export holder (string_bytes id.name) start)))
 
   in_tree_expando : (n : ℕ) → IsInside n → IsInTree tree (expando_events (node_at tree n))
@@ -395,14 +398,14 @@ module _ (tree : Tree) where
         ambient)
         (λ m kind inside is. by m kind (in_tree_body whole at ambient levels))
       where
-        inner : ℕ → EventsByPosition
+        inner : ℕ → EventsByHolderAndStart
         inner = namespace_body_events_within block (node_at tree whole) ambient levels
 
         by : (m : ℕ) (kind : Kind) → ((k : ℕ) → IsInTree tree (inner k))
             → IsInTree tree (namespace_body_events_of_kind inner block (node_at tree whole) ambient (node_at tree m) kind)
         by m (Kind.Decl (Decl.TsModuleBlock items)) rest = local_name_bytes (namespace_scope ambient) items.items
         by m (Kind.Decl (Decl.TsNamespaceDecl id body)) rest =
-            in_tree_on (child_ident_id id_of (node_at tree m)) (namespace_name_part_events (node_at tree whole) (node_at tree m) (inner body))
+            in_tree_on (id_of_ident_child id_of (node_at tree m)) (namespace_name_part_events (node_at tree whole) (node_at tree m) (inner body))
             (λ (id : Id) found holder start.
             let last = inner body start (start + 3) in
             in_tree_cons (declare holder (id_view id) (definition_of_node (ts_namespace (node_at tree whole)) (range_or_empty (node_at tree m))))
@@ -411,7 +414,7 @@ module _ (tree : Tree) where
             (in_tree_cons (child holder start) last tt (rest body start (start + 3)))))
         by m _ rest = in_tree_none
 
-    abbrev namespace_walk : Scope → Namespace → EventsByPosition
+    abbrev namespace_walk : Scope → Namespace → EventsByHolderAndStart
     namespace_walk scope namespace = events_if_some (kind_of namespace.decl) (namespace_events block scope namespace)
 
     in_tree_namespace : (scope : Scope) (exported : Option TreeNode) (n : ℕ) → IfSome exported (IsTreeNode tree) → IsInside n
@@ -419,22 +422,22 @@ module _ (tree : Tree) where
     in_tree_namespace scope exported n is inside =
         in_tree_on (kinds tree n) (namespace_events block scope (record { exported = exported; decl = node_at tree n })) (λ kind found.
         let ambient = scope.ambient || is_ambient_namespace kind in
-        in_tree_on (child_ident_id id_of (node_at tree n)) _ (λ (id : Id) at.
+        in_tree_on (id_of_ident_child id_of (node_at tree n)) _ (λ (id : Id) at.
         in_tree_declared (is_exported scope exported) (id_view id) (definition_of_node (maybe_exported_node exported (exported_ts_module (node_at tree n)))
-        (statement_range exported (node_at tree n)))
+        (export_or_decl_range exported (node_at tree n)))
         (events_if_some (child_in_field (node_at tree n) body_node_of) (namespace_body_events block (node_at tree n) ambient))
         (in_tree_form exported (exported_ts_module (node_at tree n)) is (one_node n inside))
         (in_tree_node (option_and_then body_node_of (kinds tree n)) (namespace_body_events block (node_at tree n) ambient)
         (λ c here. in_tree_body n inside ambient (length tree.nodes.items) c))))
 
     in_tree_found : (scope : Scope) (exported : Option TreeNode) (n : ℕ) → IfSome exported (IsTreeNode tree) → IsInside n
-        → (kind : Kind) (other : EventsByPosition)
+        → (kind : Kind) (other : EventsByHolderAndStart)
         → IsInTree tree other
         → IsInTree tree (namespace_events_or (as_namespace exported (node_at tree n) kind) (namespace_walk scope) other)
     in_tree_found scope exported n is inside (Kind.Decl (Decl.TsModuleDecl _ _ _)) other rest = in_tree_namespace scope exported n is inside
     in_tree_found scope exported n is inside _ other rest = rest
 
-    in_tree_exported_found : (scope : Scope) (n : ℕ) → IsInside n → (found : Option ℕ) (other : EventsByPosition) → IsInTree tree other
+    in_tree_exported_found : (scope : Scope) (n : ℕ) → IsInside n → (found : Option ℕ) (other : EventsByHolderAndStart) → IsInTree tree other
         → IsInTree tree (namespace_events_or (option_and_then (exported_namespace (node_at tree n)) (node_in tree found)) (namespace_walk scope) other)
     in_tree_exported_found scope n inside None other rest = rest
     in_tree_exported_found scope n inside (Some c) other rest = by (ltb c (length tree.nodes.items)) refl
@@ -474,6 +477,6 @@ module _ (tree : Tree) where
   pub in_tree_tree : IsInside 0 → AreInTree tree (tree_events tree)
   in_tree_tree first =
       let items = child_list_in_field (program_node tree) body_of in
-      let item : ℕ → EventsByPosition = item_events_within tree (length tree.nodes.items) (module_scope tree) in
+      let item : ℕ → EventsByHolderAndStart = item_events_within tree (length tree.nodes.items) (module_scope tree) in
       in_tree_cons (begins (program_decl tree)) (events_of_each item items 0 1) (one_node 0 first)
       (in_tree_each item items (in_tree_items (length tree.nodes.items) (module_scope tree)) 0 1)

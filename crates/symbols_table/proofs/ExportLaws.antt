@@ -8,33 +8,35 @@ use Rattle.std.proofs.lemmas.Bool.{false≢true}
 use Rattle.std.proofs.lemmas.Slice.Eq.{bytes_eq-Decides}
 use Rattle.indexmap.specs.IndexMap.{insert_entry, insert_all}
 use Rattle.symbols_ast.specs.declared.ids.SymbolId.{SymbolId}
-use Rattle.symbols_table.specs.Changes.{Change, some_if, export_insertions_after, append_name_if_absent, names_of_export_entries, symbol_if_export_named}
+use Rattle.symbols_table.specs.Changes.{Change, some_if, export_insertions_after, append_name_if_absent, exported_names_of_entries, symbol_if_export_named}
 use Rattle.symbols_table.specs.Changes.{AreExportsOfInsertions, exports_after}
 use Rattle.symbols_table.proofs.Views.{eq-sym, lookup-insert}
 
 -- ---- positions
 
-names_of_export_entries-insert : (es : List (List ℕ × SymbolId)) (k : List ℕ) (x : SymbolId)
-    → names_of_export_entries (insert_entry bytes_eq es k x) ≡ append_name_if_absent (names_of_export_entries es) k
-names_of_export_entries-insert [] k x = refl
-names_of_export_entries-insert (e ∷ es) k x = by (bytes_eq k e.0) (names_of_export_entries-insert es k x)
+exported_names_of_entries-insert : (es : List (List ℕ × SymbolId)) (k : List ℕ) (x : SymbolId)
+    → exported_names_of_entries (insert_entry bytes_eq es k x) ≡ append_name_if_absent (exported_names_of_entries es) k
+exported_names_of_entries-insert [] k x = refl
+exported_names_of_entries-insert (e ∷ es) k x = by (bytes_eq k e.0) (exported_names_of_entries-insert es k x)
   where
-    pushed : (b : Bool) → e.0 ∷ cond b (names_of_export_entries es) (names_of_export_entries es ++ k ∷ []) ≡ cond b (e.0 ∷ names_of_export_entries es)
-        ((e.0 ∷ names_of_export_entries es) ++ k ∷ [])
+    pushed : (b : Bool) → e.0 ∷ cond b (exported_names_of_entries es) (exported_names_of_entries es ++ k ∷ []) ≡ cond b (e.0 ∷ exported_names_of_entries es)
+        ((e.0 ∷ exported_names_of_entries es) ++ k ∷ [])
     pushed true = refl
     pushed false = refl
 
-    by : (same : Bool) → names_of_export_entries (insert_entry bytes_eq es k x) ≡ append_name_if_absent (names_of_export_entries es) k
-        → names_of_export_entries (cond same ((e.0, x) ∷ es) (e ∷ insert_entry bytes_eq es k x))
-        ≡ cond (same || list_any (bytes_eq k) (names_of_export_entries es)) (e.0 ∷ names_of_export_entries es) ((e.0 ∷ names_of_export_entries es) ++ k ∷ [])
+    by : (same : Bool) → exported_names_of_entries (insert_entry bytes_eq es k x) ≡ append_name_if_absent (exported_names_of_entries es) k
+        → exported_names_of_entries (cond same ((e.0, x) ∷ es) (e ∷ insert_entry bytes_eq es k x))
+        ≡ cond (same || list_any (bytes_eq k) (exported_names_of_entries es)) (e.0 ∷ exported_names_of_entries es) ((e.0 ∷ exported_names_of_entries es) ++ k
+        ∷ [])
     by true rest = refl
-    by false rest = ap (λ (names : List (List ℕ)). e.0 ∷ names) rest ∙ pushed (list_any (bytes_eq k) (names_of_export_entries es))
+    by false rest = ap (λ (names : List (List ℕ)). e.0 ∷ names) rest ∙ pushed (list_any (bytes_eq k) (exported_names_of_entries es))
 
 indices_after : (es settings : List (List ℕ × SymbolId))
-    → names_of_export_entries (insert_all bytes_eq es settings) ≡ fold append_name_if_absent (names_of_export_entries es) (names_of_export_entries settings)
+    → exported_names_of_entries (insert_all bytes_eq es settings) ≡ fold append_name_if_absent (exported_names_of_entries es)
+    (exported_names_of_entries settings)
 indices_after es [] = refl
 indices_after es (x ∷ xs) = indices_after (insert_entry bytes_eq es x.0 x.1) xs
-    ∙ ap (λ (names : List (List ℕ)). fold append_name_if_absent names (names_of_export_entries xs)) (names_of_export_entries-insert es x.0 x.1)
+    ∙ ap (λ (names : List (List ℕ)). fold append_name_if_absent names (exported_names_of_entries xs)) (exported_names_of_entries-insert es x.0 x.1)
 
 -- ---- values
 
@@ -86,5 +88,10 @@ pub are_exports : (changes : List Change) (s : SymbolId) → AreExportsOfInserti
 unfolding exports_after
 are_exports changes s =
     let settings = export_insertions_after changes s in
-    let name_order = indices_after [] settings in
-    record { name_order = name_order; values = values_after [] settings; once = rw name_order (distinct_after [] (names_of_export_entries settings) no_names) }
+    let names_are_in_insertion_order = indices_after [] settings in
+    record {
+      names_are_in_insertion_order = names_are_in_insertion_order;
+      values = values_after [] settings;
+      has_no_duplicates = rw names_are_in_insertion_order
+          (distinct_after [] (exported_names_of_entries settings) no_names);
+    }

@@ -8,10 +8,11 @@ use Rattle.std.proofs.lemmas.Map.Entries.{All-lookup}
 use Rattle.indexmap.specs.IndexMap.{insert_entry, insert_all}
 use Rattle.symbols_ast.specs.declared.ids.SymbolId.{SymbolId}
 use Rattle.symbols_ast.specs.Ids.{IdView, is_same_id}
-use Rattle.symbols_table.specs.Changes.{Change, makes_symbol, adds_decl, exports, adds_child, adds_member, maps, re_exports_all, some_if, is_same_symbol_id}
+use Rattle.symbols_table.specs.Changes.{Change, adds_symbol, adds_decl, exports, adds_child, adds_member, maps, re_exports_all, some_if, is_same_symbol_id}
 use Rattle.symbols_table.specs.Changes.{append_if_absent, child_added_by}
-use Rattle.symbols_table.specs.Changes.{member_added_by, export_inserted_by, symbol_mapped_by, exports_after, exported_symbol, children_after, members_after}
-use Rattle.symbols_table.specs.Changes.{mapped_symbol_after}
+use Rattle.symbols_table.specs.Changes.{member_added_by, export_inserted_by, symbol_bound_to_ident_by, exports_after, exported_symbol, children_after}
+use Rattle.symbols_table.specs.Changes.{members_after}
+use Rattle.symbols_table.specs.Changes.{symbol_of_ident_after_changes}
 use Rattle.symbols_table.specs.inner.Tables.{NamesSymbolsBelow, DoesNotBindOrExportModuleSymbol}
 
 pub All-head : {X : Type 0} (P : X → Type 0) (x : X) (xs : List X) → All P (x ∷ xs) → P x
@@ -31,8 +32,8 @@ All-tail P x xs all = λ k d lt. all (suc k) d (omega arith)
 abbrev pub Below : ℕ → SymbolId → Type 0
 Below count s = s.0 < count
 
-mapping_inside : (count : ℕ) (id : IdView) (change : Change) → NamesSymbolsBelow count change → IfSome (symbol_mapped_by id change) (Below count)
-mapping_inside count id (makes_symbol _) h = tt
+mapping_inside : (count : ℕ) (id : IdView) (change : Change) → NamesSymbolsBelow count change → IfSome (symbol_bound_to_ident_by id change) (Below count)
+mapping_inside count id (adds_symbol _) h = tt
 mapping_inside count id (adds_decl _ _) h = tt
 mapping_inside count id (exports _ _ _) h = tt
 mapping_inside count id (adds_child _ _) h = tt
@@ -45,23 +46,23 @@ mapping_inside count id (maps other x) h = by (is_same_id other id)
     by false = tt
 
 -- If the symbol of every binding has a property, the symbol of the last one has it.
-module _ (F : Change → Type 0) (P : SymbolId → Type 0) (id : IdView) (each : (change : Change) → F change → IfSome (symbol_mapped_by id change) P) where
-  last_so : (o : Option SymbolId) (changes : List Change) → IfSome o P → All F changes → IfSome (last_or o (filter_map (symbol_mapped_by id) changes)) P
+module _ (F : Change → Type 0) (P : SymbolId → Type 0) (id : IdView) (each : (change : Change) → F change → IfSome (symbol_bound_to_ident_by id change) P) where
+  last_so : (o : Option SymbolId) (changes : List Change) → IfSome o P → All F changes → IfSome (last_or o (filter_map (symbol_bound_to_ident_by id) changes)) P
   last_so o [] h all = h
   last_so o (change ∷ changes) h all =
-      by (λ p q. last_so p changes q (All-tail F change changes all)) (symbol_mapped_by id change) (each change (All-head F change changes all))
+      by (λ p q. last_so p changes q (All-tail F change changes all)) (symbol_bound_to_ident_by id change) (each change (All-head F change changes all))
     where
-      by : ((p : Option SymbolId) → IfSome p P → IfSome (last_or p (filter_map (symbol_mapped_by id) changes)) P)
-          → (found : Option SymbolId) → IfSome found P → IfSome (last_or o (cons_option found (filter_map (symbol_mapped_by id) changes))) P
+      by : ((p : Option SymbolId) → IfSome p P → IfSome (last_or p (filter_map (symbol_bound_to_ident_by id) changes)) P)
+          → (found : Option SymbolId) → IfSome found P → IfSome (last_or o (cons_option found (filter_map (symbol_bound_to_ident_by id) changes))) P
       by rest None q = rest o h
       by rest (Some x) q = rest (Some x) q
 
-  mapped_so : (changes : List Change) → All F changes → IfSome (mapped_symbol_after changes id) P
-  unfolding mapped_symbol_after
+  mapped_so : (changes : List Change) → All F changes → IfSome (symbol_of_ident_after_changes changes id) P
+  unfolding symbol_of_ident_after_changes
   mapped_so changes all = last_so None changes tt all
 
 pub mapped_inside : (count : ℕ) (changes : List Change) (id : IdView) → All (NamesSymbolsBelow count) changes
-    → IfSome (mapped_symbol_after changes id) (Below count)
+    → IfSome (symbol_of_ident_after_changes changes id) (Below count)
 mapped_inside count changes id all = mapped_so (NamesSymbolsBelow count) (Below count) id (mapping_inside count id) changes all
 
 -- If every symbol that a filter takes from a change is below the count, all that it takes are.
@@ -87,7 +88,7 @@ firsts_inside count done (x ∷ xs) before all =
     by false = All-push (Below count) done x before (All-head (Below count) x xs all)
 
 child_fits : (count : ℕ) (s : SymbolId) (change : Change) → NamesSymbolsBelow count change → IfSome (child_added_by s change) (Below count)
-child_fits count s (makes_symbol _) h = tt
+child_fits count s (adds_symbol _) h = tt
 child_fits count s (adds_decl _ _) h = tt
 child_fits count s (exports _ _ _) h = tt
 child_fits count s (adds_child t x) h = by (is_same_symbol_id t s)
@@ -100,7 +101,7 @@ child_fits count s (maps _ _) h = tt
 child_fits count s (re_exports_all _) h = tt
 
 member_fits : (count : ℕ) (s : SymbolId) (change : Change) → NamesSymbolsBelow count change → IfSome (member_added_by s change) (Below count)
-member_fits count s (makes_symbol _) h = tt
+member_fits count s (adds_symbol _) h = tt
 member_fits count s (adds_decl _ _) h = tt
 member_fits count s (exports _ _ _) h = tt
 member_fits count s (adds_child _ _) h = tt
@@ -130,7 +131,7 @@ abbrev pub ExportsBelow : ℕ → List ℕ × SymbolId → Type 0
 ExportsBelow count entry = entry.1.0 < count
 
 setting_fits : (count : ℕ) (s : SymbolId) (change : Change) → NamesSymbolsBelow count change → IfSome (export_inserted_by s change) (ExportsBelow count)
-setting_fits count s (makes_symbol _) h = tt
+setting_fits count s (adds_symbol _) h = tt
 setting_fits count s (adds_decl _ _) h = tt
 setting_fits count s (exports t name x) h = by (is_same_symbol_id t s)
   where
@@ -189,8 +190,8 @@ exported_inside count changes s name all = exported_so (NamesSymbolsBelow count)
 abbrev pub Inner : SymbolId → Type 0
 Inner s = 0 < s.0
 
-mapping_apart : (id : IdView) (change : Change) → DoesNotBindOrExportModuleSymbol change → IfSome (symbol_mapped_by id change) Inner
-mapping_apart id (makes_symbol _) h = tt
+mapping_apart : (id : IdView) (change : Change) → DoesNotBindOrExportModuleSymbol change → IfSome (symbol_bound_to_ident_by id change) Inner
+mapping_apart id (adds_symbol _) h = tt
 mapping_apart id (adds_decl _ _) h = tt
 mapping_apart id (exports _ _ _) h = tt
 mapping_apart id (adds_child _ _) h = tt
@@ -203,7 +204,7 @@ mapping_apart id (maps other x) h = by (is_same_id other id)
     by false = tt
 
 setting_apart : (s : SymbolId) (change : Change) → DoesNotBindOrExportModuleSymbol change → IfSome (export_inserted_by s change) (ExportsSo Inner)
-setting_apart s (makes_symbol _) h = tt
+setting_apart s (adds_symbol _) h = tt
 setting_apart s (adds_decl _ _) h = tt
 setting_apart s (exports t name x) h = by (is_same_symbol_id t s)
   where
@@ -215,7 +216,7 @@ setting_apart s (adds_member _ _) h = tt
 setting_apart s (maps _ _) h = tt
 setting_apart s (re_exports_all _) h = tt
 
-pub mapped_apart : (changes : List Change) (id : IdView) → All DoesNotBindOrExportModuleSymbol changes → IfSome (mapped_symbol_after changes id) Inner
+pub mapped_apart : (changes : List Change) (id : IdView) → All DoesNotBindOrExportModuleSymbol changes → IfSome (symbol_of_ident_after_changes changes id) Inner
 mapped_apart changes id all = mapped_so DoesNotBindOrExportModuleSymbol Inner id (mapping_apart id) changes all
 
 pub exported_apart : (changes : List Change) (s : SymbolId) (name : List ℕ) → All DoesNotBindOrExportModuleSymbol changes

@@ -28,12 +28,12 @@ use Rattle.symbols_table.specs.DeclViews.{Declaration, definition_of_node}
 use Rattle.symbols_table.specs.Changes.{Change, exports, adds_child, parents_after}
 use Rattle.symbols_table.specs.Events.{DeclarationEvent, EventEffect, effect_of_changes, declare, export, child, declare_effect, effect_of_event}
 use Rattle.symbols_table.specs.Events.{changes_of_effects, symbol_of_event_at, effects_after_events}
-use Rattle.symbols_table.specs.EventsByPosition.{EventsByPosition, no_events_by_position, events_if_some, range_or_empty, child_ident_id}
-use Rattle.symbols_table.specs.DeclarationEvents.{maybe_exported_node, statement_range, is_exported, child_and_export_events, declare_and_add_events}
+use Rattle.symbols_table.specs.EventsByHolderAndStart.{EventsByHolderAndStart, no_events_by_holder_and_start, events_if_some, range_or_empty, id_of_ident_child}
+use Rattle.symbols_table.specs.DeclarationEvents.{maybe_exported_node, export_or_decl_range, is_exported, child_and_export_events, declare_and_add_events}
 use Rattle.symbols_table.specs.TreeEvents.{is_ambient_namespace, namespace_body_events, Namespace, as_namespace, exported_namespace, namespace_of}
 use Rattle.symbols_table.specs.TreeEvents.{ItemListEvents, namespace_name_part_events, namespace_body_events_of_kind}
 use Rattle.symbols_table.specs.TreeEvents.{namespace_body_events_within, namespace_events, non_namespace_item_events, namespace_events_or, item_events}
-use Rattle.symbols_table.specs.TreeEvents.{item_events_within, item_list_events_within, declare_name_part_events}
+use Rattle.symbols_table.specs.TreeEvents.{item_events_within, item_list_events_within, namespace_part_decl_events}
 use Rattle.symbols_table.specs.inner.Levels.{AreGreaterNodeNumbers, ReturnsSymbolOfFirstEvent}
 use Rattle.symbols_table.specs.inner.Tables.{HasAppliedChanges, AppliesEffects, AppliesEventsUnderHolder}
 use Rattle.symbols_table.proofs.Rows.{effects_after_events-step, effects_after_events-nil, effects_after_events-append, length-effects_after_events}
@@ -57,7 +57,7 @@ pub part_read : (whole node : TreeNode) (id : Id) (decl : Declaration) (rows : L
     × HasAppliedChanges b1 (changes_of_effects rows ++ (declare_effect (changes_of_effects rows) holder (id_view id) decl).changes)
     → ((changes : List Change) → HasAppliedChanges b1 changes → HasAppliedChanges b2 (changes ++ exports holder (id_view id).name s ∷ []))
     → ((changes : List Change) → HasAppliedChanges b2 changes → HasAppliedChanges b3 (changes ++ adds_child holder s ∷ []))
-    → IsPartRead b3 s rows (declare_name_part_events whole node id h (length rows))
+    → IsPartRead b3 s rows (namespace_part_decl_events whole node id h (length rows))
 part_read whole node id decl rows h holder s b1 b2 b3 is at read exported added =
     let name = (id_view id).name in
     let row1 = declare_effect (changes_of_effects rows) holder (id_view id) decl in
@@ -91,7 +91,7 @@ pub part_fault : (r : Result SymbolId BuildFault) (whole node : TreeNode) (id : 
     → symbol_of_event_at rows h ≡ Some holder
     → IsErrAnd r (λ e. e ≡ fault) → (fault ≡ TooManySymbols → limit < length (parents_after (changes_of_effects rows
     ++ (declare_effect (changes_of_effects rows) holder (id_view id) decl).changes)))
-    → ReturnsSymbolOfFirstEvent r limit new rows (declare_name_part_events whole node id h (length rows))
+    → ReturnsSymbolOfFirstEvent r limit new rows (namespace_part_decl_events whole node id h (length rows))
 part_fault (Ok x) whole node id decl rows h holder limit new fault is at same read = absurd same
 part_fault (Err e) whole node id decl rows h holder limit new fault is at same read =
     let first : effect_of_event (changes_of_effects rows) (symbol_of_event_at rows) (declare h (id_view id) decl) ≡ declare_effect (changes_of_effects rows)
@@ -103,13 +103,13 @@ part_fault (Err e) whole node id decl rows h holder limit new fault is at same r
     → limit < length (parents_after (changes_of_effects (effects_after_events rows (part_declares id d h (length rows)))))) is all
 
 -- A call that goes on inside the part applies the part's events.
-pub later_read : {A : Type 0} (r : Result A BuildFault) (whole node : TreeNode) (id : Id) (inner : EventsByPosition) (rows : List EventEffect) (h : ℕ)
+pub later_read : {A : Type 0} (r : Result A BuildFault) (whole node : TreeNode) (id : Id) (inner : EventsByHolderAndStart) (rows : List EventEffect) (h : ℕ)
     (s : SymbolId)
-    (limit : ℕ) (b1 b2 : ModuleBuilder) → b1.setting.limit ≡ limit → IsPartRead b1 s rows (declare_name_part_events whole node id h (length rows))
+    (limit : ℕ) (b1 b2 : ModuleBuilder) → b1.setting.limit ≡ limit → IsPartRead b1 s rows (namespace_part_decl_events whole node id h (length rows))
     → AppliesEventsUnderHolder r b1 b2 inner s
     → AppliesEffects r limit b2 (effects_after_events rows (namespace_name_part_events whole node inner id h (length rows)))
 later_read r whole node id inner rows h s limit b1 b2 same read reads =
-    let first = declare_name_part_events whole node id h (length rows) in
+    let first = namespace_part_decl_events whole node id h (length rows) in
     let rows1 = effects_after_events rows first in
     let count : length rows1 ≡ length rows + 3 = length-effects_after_events rows first in
     let all : effects_after_events rows (first ++ inner (length rows) (length rows + 3)) ≡ effects_after_events rows1 (inner (length rows) (length rows1)) =
@@ -117,14 +117,14 @@ later_read r whole node id inner rows h s limit b1 b2 same read reads =
     reads_from r limit b1.setting.limit b2 (effects_after_events rows (namespace_name_part_events whole node inner id h (length rows)))
     (effects_after_events rows1 (inner (length rows) (length rows1))) same all (reads rows1 (length rows) read.0 read.1)
 
-pub later_fault : {A : Type 0} (r : Result A BuildFault) (whole node : TreeNode) (id : Id) (inner : EventsByPosition) (rows : List
+pub later_fault : {A : Type 0} (r : Result A BuildFault) (whole node : TreeNode) (id : Id) (inner : EventsByHolderAndStart) (rows : List
     EventEffect) (h : ℕ) (limit : ℕ) (new : ModuleBuilder) (fault : BuildFault) → IsErrAnd r (λ e. e ≡ fault)
     → (fault ≡ TooManySymbols
-    → limit < length (parents_after (changes_of_effects (effects_after_events rows (declare_name_part_events whole node id h (length rows))))))
+    → limit < length (parents_after (changes_of_effects (effects_after_events rows (namespace_part_decl_events whole node id h (length rows))))))
     → AppliesEffects r limit new (effects_after_events rows (namespace_name_part_events whole node inner id h (length rows)))
 later_fault (Ok x) whole node id inner rows h limit new fault same read = absurd same
 later_fault (Err e) whole node id inner rows h limit new fault same read = λ many.
-    let first = declare_name_part_events whole node id h (length rows) in
+    let first = namespace_part_decl_events whole node id h (length rows) in
     let rest = inner (length rows) (length rows + 3) in
     let here : limit < length (parents_after (changes_of_effects (effects_after_events rows first))) = read (sym same ∙ many) in
     let there : limit < length (parents_after (changes_of_effects (effects_after_events rows (first ++ rest)))) =
@@ -137,7 +137,7 @@ later_fault (Err e) whole node id inner rows h limit new fault same read = λ ma
 abbrev declared_rows : List EventEffect → SymbolId → IdView → Declaration → List EventEffect
 declared_rows rows holder id decl = rows ++ declare_effect (changes_of_effects rows) holder id decl ∷ []
 
-declared_split : (test : Bool) (id : IdView) (decl : Declaration) (inner : EventsByPosition) (rows : List EventEffect) (h : ℕ) (holder : SymbolId)
+declared_split : (test : Bool) (id : IdView) (decl : Declaration) (inner : EventsByHolderAndStart) (rows : List EventEffect) (h : ℕ) (holder : SymbolId)
     → symbol_of_event_at rows h ≡ Some holder → effects_after_events rows (declare_and_add_events test id decl inner h (length rows))
     ≡ effects_after_events (effects_after_events (declared_rows rows holder id decl) (inner (length rows) (length (declared_rows rows holder id decl))))
     (child_and_export_events test h
@@ -153,7 +153,7 @@ declared_split test id decl inner rows h holder at =
     (length_push rows row))
 
 -- A fault at the declaration itself.
-pub declared_fault : {A : Type 0} (r : Result A BuildFault) (test : Bool) (id : IdView) (decl : Declaration) (inner : EventsByPosition) (rows : List
+pub declared_fault : {A : Type 0} (r : Result A BuildFault) (test : Bool) (id : IdView) (decl : Declaration) (inner : EventsByHolderAndStart) (rows : List
     EventEffect) (h : ℕ) (holder : SymbolId) (limit : ℕ) (new : ModuleBuilder) (fault : BuildFault) → symbol_of_event_at rows h ≡ Some holder
     → IsErrAnd r (λ e. e ≡ fault)
     → (fault ≡ TooManySymbols → limit < length (parents_after (changes_of_effects rows ++ (declare_effect (changes_of_effects rows) holder id decl).changes)))
@@ -165,7 +165,7 @@ declared_fault r test id decl inner rows h holder limit new fault at same read =
     (inner (length rows) (length rows + 1) ++ child_and_export_events test h id.name (length rows)) fault first same read
 
 -- A fault at an event under the declaration.
-pub declared_inner_fault : (A : Type 0) {B : Type 0} (r : Result B BuildFault) (test : Bool) (id : IdView) (decl : Declaration) (inner : EventsByPosition)
+pub declared_inner_fault : (A : Type 0) {B : Type 0} (r : Result B BuildFault) (test : Bool) (id : IdView) (decl : Declaration) (inner : EventsByHolderAndStart)
     (rows : List EventEffect) (h : ℕ) (holder s : SymbolId) (limit : ℕ) (b1 b2 new : ModuleBuilder) (fault : BuildFault) → b1.setting.limit ≡ limit
     → symbol_of_event_at rows h ≡ Some holder
     → ((declare_effect (changes_of_effects rows) holder id decl).symbol ≡ Some s) × HasAppliedChanges b1 (changes_of_effects rows
@@ -184,7 +184,7 @@ declared_inner_fault A (Err e) test id decl inner rows h holder s limit b1 b2 ne
     (omega (arith, here, setting, parents_after_grow under (child_and_export_events test h id.name (length rows))))
 
 -- The declaration and its inner events are applied, and then the symbol is added to its holder.
-pub declared_read : {A : Type 0} (r : Result A BuildFault) (test : Bool) (id : IdView) (decl : Declaration) (inner : EventsByPosition) (rows : List
+pub declared_read : {A : Type 0} (r : Result A BuildFault) (test : Bool) (id : IdView) (decl : Declaration) (inner : EventsByHolderAndStart) (rows : List
     EventEffect) (h : ℕ) (holder s : SymbolId) (limit : ℕ) (b1 b2 b3 : ModuleBuilder) → b2.setting.limit ≡ limit → symbol_of_event_at rows h ≡ Some holder
     → ((declare_effect (changes_of_effects rows) holder id decl).symbol ≡ Some s)
     × HasAppliedChanges b1 (changes_of_effects rows ++ (declare_effect (changes_of_effects rows) holder id decl).changes)
@@ -312,7 +312,7 @@ list_greater node formed inside = of_kind (kind_of node) refl
 
 -- ---- bodies and items, one level deeper
 
-pub none_reads : {A : Type 0} (x : A) (b : ModuleBuilder) (holder : SymbolId) → AppliesEventsUnderHolder (Ok x) b b no_events_by_position holder
+pub none_reads : {A : Type 0} (x : A) (b : ModuleBuilder) (holder : SymbolId) → AppliesEventsUnderHolder (Ok x) b b no_events_by_holder_and_start holder
 none_reads x b holder rows h is at = none_read b rows is
 
 pub body_reads : {A : Type 0} (r : Result A BuildFault) (old new : ModuleBuilder) (holder : SymbolId) (block : ItemListEvents) (whole : TreeNode)
@@ -437,32 +437,32 @@ body_stays b holder block whole ambient parts n node kind found is enough stays 
 
 -- ---- a namespace
 
-abbrev pub namespace_inner : ItemListEvents → Scope → Namespace → Kind → EventsByPosition
+abbrev pub namespace_inner : ItemListEvents → Scope → Namespace → Kind → EventsByHolderAndStart
 namespace_inner block scope namespace kind =
     events_if_some (child_in_field namespace.decl body_node_of) (namespace_body_events block namespace.decl (scope.ambient || is_ambient_namespace kind))
 
 abbrev pub namespace_decl : Namespace → Declaration
 namespace_decl namespace = definition_of_node (maybe_exported_node namespace.exported (exported_ts_module namespace.decl))
-    (statement_range namespace.exported namespace.decl)
+    (export_or_decl_range namespace.exported namespace.decl)
 
 -- The events of a namespace that has an identifier.
-abbrev pub namespace_declared : ItemListEvents → Scope → Namespace → Kind → Id → EventsByPosition
+abbrev pub namespace_declared : ItemListEvents → Scope → Namespace → Kind → Id → EventsByHolderAndStart
 namespace_declared block scope namespace kind id =
     declare_and_add_events (is_exported scope namespace.exported) (id_view id) (namespace_decl namespace) (namespace_inner block scope namespace kind)
 
 pub namespace_read : {A : Type 0} (r : Result A BuildFault) (limit : ℕ) (new : ModuleBuilder) (rows : List EventEffect) (h : ℕ) (block : ItemListEvents)
     (scope : Scope)
-    (namespace : Namespace) (kind : Kind) (id : Id) → kind_of namespace.decl ≡ Some kind → child_ident_id id_of namespace.decl ≡ Some id
+    (namespace : Namespace) (kind : Kind) (id : Id) → kind_of namespace.decl ≡ Some kind → id_of_ident_child id_of namespace.decl ≡ Some id
     → AppliesEffects r limit new (effects_after_events rows (namespace_declared block scope namespace kind id h (length rows)))
     → AppliesEffects r limit new (effects_after_events rows (events_if_some (kind_of namespace.decl) (namespace_events block scope namespace) h (length rows)))
 namespace_read r limit new rows h block scope namespace kind id is named reads =
     on_reads r limit new rows (kind_of namespace.decl) kind (namespace_events block scope namespace) h (length rows) is
-    (on_reads r limit new rows (child_ident_id id_of namespace.decl) id (namespace_declared block scope namespace kind) h (length rows) named reads)
+    (on_reads r limit new rows (id_of_ident_child id_of namespace.decl) id (namespace_declared block scope namespace kind) h (length rows) named reads)
 
 pub namespace_stays : (b : ModuleBuilder) (rows : List EventEffect) (h : ℕ) (block : ItemListEvents) (scope : Scope) (namespace : Namespace) (kind : Kind)
-    → kind_of namespace.decl ≡ Some kind → child_ident_id id_of namespace.decl ≡ None → HasAppliedChanges b (changes_of_effects rows)
+    → kind_of namespace.decl ≡ Some kind → id_of_ident_child id_of namespace.decl ≡ None → HasAppliedChanges b (changes_of_effects rows)
     → HasAppliedChanges b
     (changes_of_effects (effects_after_events rows (events_if_some (kind_of namespace.decl) (namespace_events block scope namespace) h (length rows))))
 namespace_stays b rows h block scope namespace kind is named before =
     on_some b rows (kind_of namespace.decl) kind (namespace_events block scope namespace) h (length rows) is
-    (on_none b rows (child_ident_id id_of namespace.decl) (namespace_declared block scope namespace kind) h (length rows) named before)
+    (on_none b rows (id_of_ident_child id_of namespace.decl) (namespace_declared block scope namespace kind) h (length rows) named before)

@@ -8,11 +8,11 @@ use Rattle.symbols_ast.specs.TreeFaults.{IsFaultlessTree}
 use Rattle.symbols_ast.specs.WellFormed.{IsWellFormedTree}
 use Rattle.symbols_table.specs.declared.decl.symbol.Symbol.{Symbol}
 use Rattle.symbols_table.specs.declared.builder.table.ModuleBuilder.{ModuleBuilder}
-use Rattle.symbols_table.specs.Changes.{Change, decls_after, mapped_symbol_after}
+use Rattle.symbols_table.specs.Changes.{Change, decls_after, symbol_of_ident_after_changes}
 use Rattle.symbols_table.specs.Symbols.{symbol_parent, symbol_decls}
 use Rattle.symbols_table.specs.inner.Symbols.{IsSymbolOfChanges}
 use Rattle.symbols_table.specs.ModuleViews.{identifier_bindings_view, export_star_view}
-use Rattle.symbols_table.specs.Laws.{IsLawfulSymbol, AreLawfulSymbols, AreBoundedByNodes, AreMappedToSymbols, AreDeclaredInTree, IsExportStarInTree}
+use Rattle.symbols_table.specs.Laws.{IsLawfulSymbol, AreLawfulSymbols, AreBoundedByNodes, AreIdentsBoundToSymbols, AreDeclaredInTree, IsExportStarInTree}
 use Rattle.symbols_table.specs.inner.Tables.{HasAppliedChanges}
 use Rattle.symbols_table.specs.TreeEvents.{tree_events}
 use Rattle.symbols_table.specs.Analysis.{table_changes_from_tree}
@@ -45,17 +45,17 @@ lawful_symbol b changes s symbol is at =
       exports = rw here.exports (exports_inside count changes s is.sound);
       children = rw here.children (children_inside count changes s is.sound);
       members = rw here.members (members_inside count changes s is.sound);
-      once = rw here.exports (are_exports changes s).once;
+      has_no_duplicates = rw here.exports (are_exports changes s).has_no_duplicates;
     }
 
 pub are_lawful : (b : ModuleBuilder) (changes : List Change) → HasAppliedChanges b changes → AreLawfulSymbols b.setting.module_id b.symbols.items
 are_lawful b changes is = λ s symbol at. lawful_symbol b changes s symbol is at
 
 pub are_names : (b : ModuleBuilder) (changes : List Change) → HasAppliedChanges b changes
-    → AreMappedToSymbols (length b.symbols.items) (identifier_bindings_view b.ids.entries)
+    → AreIdentsBoundToSymbols (length b.symbols.items) (identifier_bindings_view b.ids.entries)
 are_names b changes is = λ id s at.
     let count = length b.symbols.items in
-    let inside : IfSome (mapped_symbol_after changes id) (λ s. s.0 < count) = mapped_inside count changes id is.sound in
+    let inside : IfSome (symbol_of_ident_after_changes changes id) (λ s. s.0 < count) = mapped_inside count changes id is.sound in
     let P : Option SymbolId → Type 0 = λ o. IfSome o (λ s. s.0 < count) in
     subst P (sym (is.ids id) ∙ at) inside
 

@@ -13,7 +13,7 @@ use Rattle.symbols_ast.specs.declared.ids.SymbolId.{SymbolId}
 use Rattle.symbols_table.specs.declared.decl.symbol.Symbol.{Symbol}
 use Rattle.symbols_table.specs.declared.builder.names.LocalName.{LocalName}
 use Rattle.symbols_table.specs.declared.builder.table.ModuleBuilder.{ModuleBuilder}
-use Rattle.symbols_table.specs.Changes.{Change, is_same_symbol_id, some_if, local_name, is_symbol_named, child_named, member_named, children_after}
+use Rattle.symbols_table.specs.Changes.{Change, is_same_symbol_id, some_if, local_name, is_symbol_named, first_child_named, first_member_named, children_after}
 use Rattle.symbols_table.specs.Changes.{members_after}
 use Rattle.symbols_table.specs.inner.Tables.{NamesSymbolsBelow, HasAppliedChanges, local_name_in_symbols}
 use Rattle.symbols_table.specs.inner.LocalNames.{is_local_name_of_symbol}
@@ -70,9 +70,9 @@ found_inside count p (x ∷ xs) all = by (found_inside count p xs (All-tail (Bel
     by rest here false = rest
 
 pub child_inside : (count : ℕ) (changes : List Change) (s : SymbolId) (name : List ℕ) → All (NamesSymbolsBelow count) changes
-    → IfSome (child_named changes s name) (Below count)
+    → IfSome (first_child_named changes s name) (Below count)
 child_inside count changes s name all = found_inside count (is_symbol_named changes name) (children_after changes s) (children_inside count changes s all)
 
 pub member_inside : (count : ℕ) (changes : List Change) (s : SymbolId) (name : List ℕ) → All (NamesSymbolsBelow count) changes
-    → IfSome (member_named changes s name) (Below count)
+    → IfSome (first_member_named changes s name) (Below count)
 member_inside count changes s name all = found_inside count (is_symbol_named changes name) (members_after changes s) (members_inside count changes s all)

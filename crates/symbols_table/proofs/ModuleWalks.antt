@@ -19,12 +19,12 @@ use Rattle.symbols_table.specs.declared.builder.table.ModuleBuilder.{ModuleBuild
 use Rattle.symbols_table.specs.declared.builder.table.BuildFault.{BuildFault}
 use Rattle.symbols_table.specs.declared.builder.table.BuildFault.TheVariants.{OutOfMemory, TooManySymbols}
 use Rattle.symbols_table.specs.DeclViews.{Declaration, FileDepNameView, DeclKindView, declaration_of_kind, definition_of_node, file_ref}
-use Rattle.symbols_table.specs.Changes.{makes_symbol, adds_decl, maps, parents_after}
+use Rattle.symbols_table.specs.Changes.{adds_symbol, adds_decl, maps, parents_after}
 use Rattle.symbols_table.specs.Events.{DeclarationEvent, EventEffect, declare, declare_alias, default, expando, binds}
 use Rattle.symbols_table.specs.Events.{effect_yielding_symbol, new_symbol_effect, effect_of_event, changes_of_effects, symbol_of_event_at, effects_after_events}
-use Rattle.symbols_table.specs.EventsByPosition.{EventsByPosition, events_if_some, events_of_each, range_or_empty, child_ident_id}
+use Rattle.symbols_table.specs.EventsByHolderAndStart.{EventsByHolderAndStart, events_if_some, events_of_each, range_or_empty, id_of_ident_child}
 use Rattle.symbols_table.specs.MemberEvents.{member_events_at, member_nodes}
-use Rattle.symbols_table.specs.DeclarationEvents.{declared_name, export_if}
+use Rattle.symbols_table.specs.DeclarationEvents.{declared_name, export_event_if}
 use Rattle.symbols_table.specs.ModuleEvents.{import_dep_name, import_decl_events, import_specifier_events, import_specifier_events_at, bind_events_if}
 use Rattle.symbols_table.specs.ModuleEvents.{default_decl_events}
 use Rattle.symbols_table.specs.ModuleEvents.{expando_events, import_equals_decl_kind, import_equals_alias_events, import_equals_events}
@@ -52,13 +52,13 @@ fresh_row rows holder decl = new_symbol_effect (changes_of_effects rows) (Some h
 
 pub fresh_read : (b : ModuleBuilder) (rows : List EventEffect) (holder : SymbolId) (decl : Declaration) (s : SymbolId)
     → s.0 ≡ length (parents_after (changes_of_effects rows))
-    → HasAppliedChanges b ((changes_of_effects rows ++ makes_symbol (Some holder) ∷ []) ++ adds_decl s decl ∷ [])
+    → HasAppliedChanges b ((changes_of_effects rows ++ adds_symbol (Some holder) ∷ []) ++ adds_decl s decl ∷ [])
     → (symbol_of_event_at (rows ++ fresh_row rows holder decl ∷ []) (length rows) ≡ Some s)
     × HasAppliedChanges b (changes_of_effects (rows ++ fresh_row rows holder decl ∷ []))
 fresh_read b rows holder decl s number is =
     let before = changes_of_effects rows in
     let read =
-    new_reads b before (Some holder) decl (λ _. []) s number (rw (append-nil ((before ++ makes_symbol (Some holder) ∷ []) ++ adds_decl s decl ∷ [])) is) in
+    new_reads b before (Some holder) decl (λ _. []) s number (rw (append-nil ((before ++ adds_symbol (Some holder) ∷ []) ++ adds_decl s decl ∷ [])) is) in
     (symbol_of_event_at-push rows (fresh_row rows holder decl) ∙ read.0, one_read b rows (fresh_row rows holder decl) read.1)
 
 -- The same for a list of events that is equal to that one event.
@@ -77,24 +77,24 @@ err_as r limit new rows events event row more fault e reads h full = rw e (err_a
 
 -- ---- optional parts
 
-pub on_nothing : {A : Type 0} (found : Option A) (walk : A → EventsByPosition) (h start : ℕ) → found ≡ None → events_if_some found walk h start ≡ []
+pub on_nothing : {A : Type 0} (found : Option A) (walk : A → EventsByHolderAndStart) (h start : ℕ) → found ≡ None → events_if_some found walk h start ≡ []
 on_nothing found walk h start e = rw e refl
 
-pub on_thing : {A : Type 0} (found : Option A) (x : A) (walk : A → EventsByPosition) (h start : ℕ) → found ≡ Some x
+pub on_thing : {A : Type 0} (found : Option A) (x : A) (walk : A → EventsByHolderAndStart) (h start : ℕ) → found ≡ Some x
     → events_if_some found walk h start ≡ walk x h start
 on_thing found x walk h start e = rw e refl
 
-pub on_same : {A : Type 0} (found : Option A) (walk other : A → EventsByPosition) (h start : ℕ) → ((x : A) → walk x h start ≡ other x h start)
+pub on_same : {A : Type 0} (found : Option A) (walk other : A → EventsByHolderAndStart) (h start : ℕ) → ((x : A) → walk x h start ≡ other x h start)
     → events_if_some found walk h start ≡ events_if_some found other h start
 on_same None walk other h start same = refl
 on_same (Some x) walk other h start same = same x
 
-pub on_each_nothing : {A : Type 0} (found : Option A) (walk : A → EventsByPosition) (h start : ℕ) → ((x : A) → walk x h start ≡ [])
+pub on_each_nothing : {A : Type 0} (found : Option A) (walk : A → EventsByHolderAndStart) (h start : ℕ) → ((x : A) → walk x h start ≡ [])
     → events_if_some found walk h start ≡ []
 on_each_nothing None walk h start same = refl
 on_each_nothing (Some x) walk h start same = same x
 
-pub on_both : {A C : Type 0} (found : Option A) (part : A → Option C) (walk : C → EventsByPosition) (h start : ℕ)
+pub on_both : {A C : Type 0} (found : Option A) (part : A → Option C) (walk : C → EventsByHolderAndStart) (h start : ℕ)
     → events_if_some found (λ (x : A). events_if_some (part x) walk) h start ≡ events_if_some (option_and_then part found) walk h start
 on_both None part walk h start = refl
 on_both (Some x) part walk h start = refl
@@ -105,18 +105,18 @@ occurs node range e = rw e refl
 
 -- ---- imports
 
-pub import_unnamed : (src : List ℕ) (node : TreeNode) (h start : ℕ) → child_ident_id local_of node ≡ None
+pub import_unnamed : (src : List ℕ) (node : TreeNode) (h start : ℕ) → id_of_ident_child local_of node ≡ None
     → events_if_some (kind_of node) (import_specifier_events src node) h start ≡ []
 import_unnamed src node h start e = on_each_nothing (kind_of node) (import_specifier_events src node) h start
-    (λ kind. on_nothing (child_ident_id local_of node) (λ (id : Id). events_if_some (import_dep_name id kind) (import_decl_events src node id)) h start e)
+    (λ kind. on_nothing (id_of_ident_child local_of node) (λ (id : Id). events_if_some (import_dep_name id kind) (import_decl_events src node id)) h start e)
 
-pub import_named : (src : List ℕ) (node : TreeNode) (id : Id) (h start : ℕ) → child_ident_id local_of node ≡ Some id
+pub import_named : (src : List ℕ) (node : TreeNode) (id : Id) (h start : ℕ) → id_of_ident_child local_of node ≡ Some id
     → events_if_some (kind_of node) (import_specifier_events src node) h start
     ≡ events_if_some (option_and_then (import_dep_name id) (kind_of node)) (import_decl_events src node id) h start
 import_named src node id h start e =
     on_same (kind_of node) (import_specifier_events src node) (λ (kind : Kind). events_if_some (import_dep_name id kind) (import_decl_events src node id)) h
     start
-    (λ kind. on_thing (child_ident_id local_of node) id (λ (x : Id). events_if_some (import_dep_name x kind) (import_decl_events src node x)) h start e)
+    (λ kind. on_thing (id_of_ident_child local_of node) id (λ (x : Id). events_if_some (import_dep_name x kind) (import_decl_events src node x)) h start e)
     ∙ on_both (kind_of node) (import_dep_name id) (import_decl_events src node id) h start
 
 pub import_found : (src : List ℕ) (tree : Tree) (n : ℕ) (node : TreeNode) (h start : ℕ) → node_in tree (Some n) ≡ Some node
@@ -126,7 +126,7 @@ import_found src tree n node h start e = on_thing (node_in tree (Some n)) node (
 
 pub import_one : (src : List ℕ) (tree : Tree) (n : ℕ) (node : TreeNode) (id : Id) (name : FileDepNameView) (kind : DeclKindView) (range : SourceRange)
     (decl : Declaration)
-    (h start : ℕ) → node_in tree (Some n) ≡ Some node → child_ident_id local_of node ≡ Some id
+    (h start : ℕ) → node_in tree (Some n) ≡ Some node → id_of_ident_child local_of node ≡ Some id
     → option_and_then (import_dep_name id) (kind_of node) ≡ Some name → range_of node ≡ Some range → kind ≡ file_ref name src
     → decl ≡ declaration_of_kind kind range
     → import_specifier_events_at src tree n h start ≡ declare h (id_view id) decl ∷ []
@@ -182,7 +182,7 @@ expando_one node inner id range decl h start is_symbol_named same index is_decl 
 -- ---- default exports
 
 -- The rows of an event, of a list of events and of a further part are computed in that order.
-pub rows_of_three : (rows : List EventEffect) (event : DeclarationEvent) (row : EventEffect) (events : List DeclarationEvent) (walk : EventsByPosition)
+pub rows_of_three : (rows : List EventEffect) (event : DeclarationEvent) (row : EventEffect) (events : List DeclarationEvent) (walk : EventsByHolderAndStart)
     (index : ℕ)
     → effect_of_event (changes_of_effects rows) (symbol_of_event_at rows) event ≡ row
     → effects_after_events rows (event ∷ (events ++ walk index (length rows + 1 + length events)))
@@ -232,15 +232,16 @@ default_decl_rows rows node decl range d row h index is_decl reads =
 -- ---- `import a = ..`
 
 pub alias_one : (node : TreeNode) (test : Bool) (entity : Option ℕ) (external : Option (String Global)) (id : Id) (kind : DeclKindView) (range : SourceRange)
-    (decl : Declaration) (h start : ℕ) → child_ident_id id_of node ≡ Some id → import_equals_decl_kind node entity external ≡ Some kind
+    (decl : Declaration) (h start : ℕ) → id_of_ident_child id_of node ≡ Some id → import_equals_decl_kind node entity external ≡ Some kind
     → range_of node ≡ Some range → decl ≡ declaration_of_kind kind range
-    → import_equals_events node test entity external h start ≡ declare_alias h (id_view id) decl ∷ export_if test h (string_bytes id.name) start
+    → import_equals_events node test entity external h start ≡ declare_alias h (id_view id) decl ∷ export_event_if test h (string_bytes id.name) start
 alias_one node test entity external id kind range decl h start is_symbol_named is_kind index is_decl =
     let e : decl ≡ declaration_of_kind kind (range_or_empty node) = is_decl ∙ rw (occurs node range index) refl in
-    on_thing (child_ident_id id_of node) id (λ (x : Id). events_if_some (import_equals_decl_kind node entity external) (import_equals_alias_events node test x))
+    on_thing (id_of_ident_child id_of node) id (λ (x : Id). events_if_some (import_equals_decl_kind node entity external)
+    (import_equals_alias_events node test x))
     h start is_symbol_named
     ∙ on_thing (import_equals_decl_kind node entity external) kind (import_equals_alias_events node test id) h start is_kind
-    ∙ ap (λ (d : Declaration). declare_alias h (id_view id) d ∷ export_if test h (string_bytes id.name) start) (sym e)
+    ∙ ap (λ (d : Declaration). declare_alias h (id_view id) d ∷ export_event_if test h (string_bytes id.name) start) (sym e)
 
 -- A call that applies an event and fails only if an allocation fails.
 pub only_memory : {A : Type 0} (r : Result A BuildFault) (limit : ℕ) (new : ModuleBuilder) (rows : List EventEffect) (events : List DeclarationEvent)

@@ -9,10 +9,11 @@ use Rattle.std.proofs.lemmas.Bool.{cases_eq}
 use Rattle.std.proofs.lemmas.Bool.Decides.{nat_tests}
 use Rattle.std.proofs.lemmas.List.Folds.{find-append}
 use Rattle.symbols_ast.specs.declared.ids.SymbolId.{SymbolId}
-use Rattle.symbols_table.specs.DeclViews.{Declaration, decl_name, is_overload_after, last_decl}
-use Rattle.symbols_table.specs.Changes.{Change, makes_symbol, adds_decl, adds_child, adds_member, is_same_symbol_id, some_if, decl_added_by, child_added_by}
+use Rattle.symbols_table.specs.DeclViews.{Declaration, decl_name, is_overload_after_decl, last_decl}
+use Rattle.symbols_table.specs.Changes.{Change, adds_symbol, adds_decl, adds_child, adds_member, is_same_symbol_id, some_if, decl_added_by, child_added_by}
 use Rattle.symbols_table.specs.Changes.{member_added_by}
-use Rattle.symbols_table.specs.Changes.{append_if_absent, decls_after, children_after, members_after, local_name, is_symbol_named, child_named, member_named}
+use Rattle.symbols_table.specs.Changes.{append_if_absent, decls_after, children_after, members_after, local_name, is_symbol_named, first_child_named}
+use Rattle.symbols_table.specs.Changes.{first_member_named}
 use Rattle.symbols_table.specs.inner.Tables.{NamesSymbolsBelow}
 use Rattle.symbols_table.proofs.OneMore.{only_same, only_other, decls_after-out, decls_after-in, children_after-out}
 use Rattle.symbols_table.proofs.OneMore.{children_after-in, members_after-out, members_after-in}
@@ -81,7 +82,7 @@ name_more changes t s x some = by (cases_eq s.0 t.0)
     by (inl same) =
         let P : ℕ → Type 0 = λ n. local_name (changes ++ adds_decl t x ∷ []) (record { 0 = n }) ≡ local_name changes (record { 0 = n }) in
         subst P (sym same) (rw (decls_after-in changes (adds_decl t x) t x (only_same t x)) (ap (option_and_then decl_name)
-        (first_retained (decls_after changes t) (record x { has_overloads = is_overload_after (last_decl (decls_after changes t)) x }) some)))
+        (first_retained (decls_after changes t) (record x { has_overloads = is_overload_after_decl (last_decl (decls_after changes t)) x }) some)))
     by (inr other) = name_out changes (adds_decl t x) s (only_other t s x other)
 
 -- A search by name finds the same after changes that leave these names unchanged.
@@ -98,13 +99,13 @@ pub record IsQuiet (changes : List Change) (change : Change) : Type 0 where
   pub member : (s : SymbolId) → member_added_by s change ≡ None
 
 pub child_quiet : (changes : List Change) (change : Change) → IsQuiet changes change → (h : SymbolId) (name : List ℕ)
-    → child_named (changes ++ change ∷ []) h name ≡ child_named changes h name
+    → first_child_named (changes ++ change ∷ []) h name ≡ first_child_named changes h name
 child_quiet changes change quiet h name =
     rw (children_after-out changes change h (quiet.child h))
     (retained_named changes (changes ++ change ∷ []) name (children_after changes h) (λ k d lt. quiet.names (get_or (children_after changes h) k d)))
 
 pub member_quiet : (changes : List Change) (change : Change) → IsQuiet changes change → (h : SymbolId) (name : List ℕ)
-    → member_named (changes ++ change ∷ []) h name ≡ member_named changes h name
+    → first_member_named (changes ++ change ∷ []) h name ≡ first_member_named changes h name
 member_quiet changes change quiet h name =
     rw (members_after-out changes change h (quiet.member h))
     (retained_named changes (changes ++ change ∷ []) name (members_after changes h) (λ k d lt. quiet.names (get_or (members_after changes h) k d)))
@@ -126,14 +127,14 @@ none_else (Some y) = refl
 
 -- An added child is found by its name if no other was found before.
 pub child_added : (changes : List Change) (t x h : SymbolId) (name : List ℕ)
-    → child_named (changes ++ adds_child t x ∷ []) h name ≡ option_or (child_named changes h name) (if_named changes name (is_same_symbol_id t h) x)
+    → first_child_named (changes ++ adds_child t x ∷ []) h name ≡ option_or (first_child_named changes h name) (if_named changes name (is_same_symbol_id t h) x)
 child_added changes t x h name = by (cases_eq h.0 t.0)
   where
     names : (xs : List SymbolId) → find (is_symbol_named (changes ++ adds_child t x ∷ []) name) xs ≡ find (is_symbol_named changes name) xs
     names xs = retained_named changes (changes ++ adds_child t x ∷ []) name xs (λ k d lt. name_out changes (adds_child t x) (get_or xs k d) refl)
 
-    by : (h.0 ≡ t.0) ⊎ (h.0 ≢ t.0) → child_named (changes ++ adds_child t x ∷ []) h name
-        ≡ option_or (child_named changes h name) (if_named changes name (is_same_symbol_id t h) x)
+    by : (h.0 ≡ t.0) ⊎ (h.0 ≢ t.0) → first_child_named (changes ++ adds_child t x ∷ []) h name
+        ≡ option_or (first_child_named changes h name) (if_named changes name (is_same_symbol_id t h) x)
     by (inl same) =
         let test : (t.0 == h.0) ≡ true = grind (arith, nat_tests) in
         let P : ℕ → Type 0 = λ n. children_after (changes ++ adds_child t x ∷ []) (record { 0 = n })
@@ -148,14 +149,15 @@ child_added changes t x h name = by (cases_eq h.0 t.0)
 
 -- An added member is found by its name if no other was found before.
 pub member_added : (changes : List Change) (t x h : SymbolId) (name : List ℕ)
-    → member_named (changes ++ adds_member t x ∷ []) h name ≡ option_or (member_named changes h name) (if_named changes name (is_same_symbol_id t h) x)
+    → first_member_named (changes ++ adds_member t x ∷ []) h name ≡ option_or (first_member_named changes h name)
+    (if_named changes name (is_same_symbol_id t h) x)
 member_added changes t x h name = by (cases_eq h.0 t.0)
   where
     names : (xs : List SymbolId) → find (is_symbol_named (changes ++ adds_member t x ∷ []) name) xs ≡ find (is_symbol_named changes name) xs
     names xs = retained_named changes (changes ++ adds_member t x ∷ []) name xs (λ k d lt. name_out changes (adds_member t x) (get_or xs k d) refl)
 
-    by : (h.0 ≡ t.0) ⊎ (h.0 ≢ t.0) → member_named (changes ++ adds_member t x ∷ []) h name
-        ≡ option_or (member_named changes h name) (if_named changes name (is_same_symbol_id t h) x)
+    by : (h.0 ≡ t.0) ⊎ (h.0 ≢ t.0) → first_member_named (changes ++ adds_member t x ∷ []) h name
+        ≡ option_or (first_member_named changes h name) (if_named changes name (is_same_symbol_id t h) x)
     by (inl same) =
         let test : (t.0 == h.0) ≡ true = grind (arith, nat_tests) in
         let P : ℕ → Type 0 = λ n. members_after (changes ++ adds_member t x ∷ []) (record { 0 = n }) ≡ append_if_absent
@@ -173,22 +175,22 @@ module _ (changes : List Change) (count : ℕ) (sound : All (NamesSymbolsBelow c
     (number : t.0
     ≡ count) where
   abbrev after : List Change
-  after = (changes ++ makes_symbol parent ∷ []) ++ adds_decl t x ∷ []
+  after = (changes ++ adds_symbol parent ∷ []) ++ adds_decl t x ∷ []
 
   below_retained : (s : SymbolId) → s.0 < count → local_name after s ≡ local_name changes s
-  below_retained s lt = name_out (changes ++ makes_symbol parent ∷ []) (adds_decl t x) s (only_other t s x (λ e. absurd (omega (arith, e, lt, number))))
-      ∙ name_out changes (makes_symbol parent) s refl
+  below_retained s lt = name_out (changes ++ adds_symbol parent ∷ []) (adds_decl t x) s (only_other t s x (λ e. absurd (omega (arith, e, lt, number))))
+      ∙ name_out changes (adds_symbol parent) s refl
 
-  pub child_made : (h : SymbolId) (name : List ℕ) → child_named after h name ≡ child_named changes h name
+  pub child_made : (h : SymbolId) (name : List ℕ) → first_child_named after h name ≡ first_child_named changes h name
   child_made h name =
       let same : children_after after h ≡ children_after changes h =
-      children_after-out (changes ++ makes_symbol parent ∷ []) (adds_decl t x) h refl ∙ children_after-out changes (makes_symbol parent) h refl in
+      children_after-out (changes ++ adds_symbol parent ∷ []) (adds_decl t x) h refl ∙ children_after-out changes (adds_symbol parent) h refl in
       rw same (retained_named changes after name (children_after changes h)
       (λ k d lt. below_retained (get_or (children_after changes h) k d) (children_inside count changes h sound k d lt)))
 
-  pub member_made : (h : SymbolId) (name : List ℕ) → member_named after h name ≡ member_named changes h name
+  pub member_made : (h : SymbolId) (name : List ℕ) → first_member_named after h name ≡ first_member_named changes h name
   member_made h name =
       let same : members_after after h ≡ members_after changes h =
-      members_after-out (changes ++ makes_symbol parent ∷ []) (adds_decl t x) h refl ∙ members_after-out changes (makes_symbol parent) h refl in
+      members_after-out (changes ++ adds_symbol parent ∷ []) (adds_decl t x) h refl ∙ members_after-out changes (adds_symbol parent) h refl in
       rw same (retained_named changes after name (members_after changes h)
       (λ k d lt. below_retained (get_or (members_after changes h) k d) (members_inside count changes h sound k d lt)))

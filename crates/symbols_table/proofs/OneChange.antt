@@ -20,13 +20,15 @@ use Rattle.symbols_ast.specs.Ids.{IdView, is_same_id}
 use Rattle.symbols_table.specs.declared.decl.symbol.Symbol.{Symbol}
 use Rattle.symbols_table.specs.declared.builder.names.LocalName.{LocalName}
 use Rattle.symbols_table.specs.declared.builder.table.ModuleBuilder.{ModuleBuilder}
-use Rattle.symbols_table.specs.DeclViews.{Declaration, decl_view, append_decl, is_overload_after, last_decl}
+use Rattle.symbols_table.specs.DeclViews.{Declaration, decl_view, append_decl_with_overload_flag, is_overload_after_decl, last_decl}
 use Rattle.symbols_table.specs.TableViews.{SymbolMapsView, empty_symbol_maps}
-use Rattle.symbols_table.specs.Changes.{Change, Star, makes_symbol, adds_decl, exports, adds_child, adds_member, maps, re_exports_all, is_same_symbol_id}
+use Rattle.symbols_table.specs.Changes.{Change, ExportStarStatement, adds_symbol, adds_decl, exports, adds_child, adds_member, maps, re_exports_all}
+use Rattle.symbols_table.specs.Changes.{is_same_symbol_id}
 use Rattle.symbols_table.specs.Changes.{export_star_added_by}
-use Rattle.symbols_table.specs.Changes.{export_stars_after, child_named, member_named, parent_of_symbol_made_by, decl_added_by, export_inserted_by}
-use Rattle.symbols_table.specs.Changes.{child_added_by, member_added_by, symbol_mapped_by}
-use Rattle.symbols_table.specs.Changes.{parents_after, decls_after, exports_after, children_after, members_after, mapped_symbol_after, append_if_absent}
+use Rattle.symbols_table.specs.Changes.{export_stars_after, first_child_named, first_member_named, parent_of_symbol_made_by, decl_added_by, export_inserted_by}
+use Rattle.symbols_table.specs.Changes.{child_added_by, member_added_by, symbol_bound_to_ident_by}
+use Rattle.symbols_table.specs.Changes.{parents_after, decls_after, exports_after, children_after, members_after, symbol_of_ident_after_changes}
+use Rattle.symbols_table.specs.Changes.{append_if_absent}
 use Rattle.symbols_table.specs.declared.info.re_exports.StarStatement.{StarStatement}
 use Rattle.symbols_table.specs.ModuleViews.{identifier_bindings_view, export_star_view}
 use Rattle.symbols_table.specs.inner.Symbols.{IsSymbolOfChanges}
@@ -37,7 +39,8 @@ use Rattle.symbols_table.proofs.Named.{IsQuiet, quiet, quiet_decl, child_quiet, 
 use Rattle.symbols_table.proofs.Named.{name_out, if_named, child_added, member_added, child_made, member_made}
 use Rattle.symbols_table.proofs.OneMore.{only_same, only_other, parents_after-out, parents_after-in, decls_after-out, decls_after-in}
 use Rattle.symbols_table.proofs.OneMore.{exports_after-out, exports_after-in, children_after-out, children_after-in, members_after-out}
-use Rattle.symbols_table.proofs.OneMore.{members_after-in, export_stars_after-out, export_stars_after-in, mapped_symbol_after-out, mapped_symbol_after-maps}
+use Rattle.symbols_table.proofs.OneMore.{members_after-in, export_stars_after-out, export_stars_after-in, symbol_of_ident_after_changes-out}
+use Rattle.symbols_table.proofs.OneMore.{symbol_of_ident_after_changes-maps}
 
 -- Pushing an element leaves the others at their indices.
 slice_get-push : {X : Type 0} (xs : List X) (y : X) (i : ℕ) (x : X) → slice_get xs i ≡ Some x → slice_get (xs ++ y ∷ []) i ≡ Some x
@@ -55,7 +58,7 @@ pub read_back : {X : Type 0} (xs : List X) (i : ℕ) (x d : X) → i < length xs
 read_back xs i x d lt e = get_or_default xs i d x lt ∙ sym e
 
 fits_one_more : (count : ℕ) (change : Change) → NamesSymbolsBelow count change → NamesSymbolsBelow (count + 1) change
-fits_one_more count (makes_symbol _) h = tt
+fits_one_more count (adds_symbol _) h = tt
 fits_one_more count (adds_decl _ _) h = omega (arith, h)
 fits_one_more count (exports _ _ _) h = (omega (arith, h.0), omega (arith, h.1))
 fits_one_more count (adds_child _ _) h = (omega (arith, h.0), omega (arith, h.1))
@@ -102,7 +105,7 @@ decls_after-grow changes s change = by (decl_added_by s change) refl
     by None is = rw (decls_after-out changes change s is) (omega arith)
     by (Some decl) is = rw (
       decls_after-in changes change s decl is,
-      length-append (decls_after changes s) ((record decl { has_overloads = is_overload_after (last_decl (decls_after changes s)) decl }) ∷ []),
+      length-append (decls_after changes s) ((record decl { has_overloads = is_overload_after_decl (last_decl (decls_after changes s)) decl }) ∷ []),
     ) (omega arith)
 
 -- Only the symbol t of the builder is written.
@@ -123,11 +126,12 @@ module _ {b after : ModuleBuilder} {t : SymbolId} {old new : Symbol} (w : Writes
   was h = subst (IsSymbolOfChanges b.setting.module_id changes t) (read_back b.symbols.items t.0 old new w.below w.read) h
 
   -- A builder in which only symbol t is written has the table with a change of t.
-  written : (change : Change) → parent_of_symbol_made_by change ≡ None → ((id : IdView) → symbol_mapped_by id change ≡ None)
+  written : (change : Change) → parent_of_symbol_made_by change ≡ None → ((id : IdView) → symbol_bound_to_ident_by id change ≡ None)
       → ((s : SymbolId) → s.0 ≢ t.0 → Spares change s)
       → NamesSymbolsBelow (length b.symbols.items) change → DoesNotBindOrExportModuleSymbol change → export_star_added_by change ≡ None
-      → ((q : LocalName) → 0 < q.holder.0 → symbol_by_local_name after.child_names q ≡ child_named (changes ++ change ∷ []) q.holder (cow_str_bytes q.name))
-      → ((q : LocalName) → symbol_by_local_name after.member_names q ≡ member_named (changes ++ change ∷ []) q.holder (cow_str_bytes q.name))
+      → ((q : LocalName) → 0 < q.holder.0 → symbol_by_local_name after.child_names q ≡ first_child_named (changes ++ change ∷ []) q.holder
+      (cow_str_bytes q.name))
+      → ((q : LocalName) → symbol_by_local_name after.member_names q ≡ first_member_named (changes ++ change ∷ []) q.holder (cow_str_bytes q.name))
       → (IsSymbolOfChanges b.setting.module_id changes t old → IsSymbolOfChanges b.setting.module_id (changes ++ change ∷ []) t new)
       → HasAppliedChanges after (changes ++ change ∷ [])
   written change silent unmapped spares fits apart no_star children_named members_named changed = record {
@@ -135,7 +139,7 @@ module _ {b after : ModuleBuilder} {t : SymbolId} {old new : Symbol} (w : Writes
     symbols = rw w.setting (λ s d lt. by s d (rw len at lt) (cases_eq s.0 t.0));
     has_no_changes_beyond_count = λ s le. let past : length b.symbols.items ≤ s.0 = omega (arith, len) in
         bare_retained changes change s (spares s (λ same. absurd (omega (arith, w.below)))) (is.has_no_changes_beyond_count s past);
-    ids = λ id. rw (w.ids, mapped_symbol_after-out changes change id (unmapped id)) (is.ids id);
+    ids = λ id. rw (w.ids, symbol_of_ident_after_changes-out changes change id (unmapped id)) (is.ids id);
     child_names = children_named;
     member_names = members_named;
     stars = rw (w.stars, export_stars_after-out changes change no_star) is.stars;
@@ -201,7 +205,7 @@ module _ {b after : ModuleBuilder} {t : SymbolId} {old new : Symbol} (w : Writes
       (is.child_names q below) ∙ sym (child_added changes t x q.holder (cow_str_bytes q.name))))
       (λ q. rw on (is.member_names q ∙ sym (member_still q.holder (cow_str_bytes q.name)))) by
     where
-      member_still : (h : SymbolId) (name : List ℕ) → member_named (changes ++ adds_child t x ∷ []) h name ≡ member_named changes h name
+      member_still : (h : SymbolId) (name : List ℕ) → first_member_named (changes ++ adds_child t x ∷ []) h name ≡ first_member_named changes h name
       member_still h name = rw (members_after-out changes (adds_child t x) h refl) (retained_named changes (changes ++ adds_child t x ∷ []) name
           (members_after changes h) (λ k d lt. name_out changes (adds_child t x) (get_or (members_after changes h) k d) refl))
 
@@ -227,7 +231,7 @@ module _ {b after : ModuleBuilder} {t : SymbolId} {old new : Symbol} (w : Writes
       (λ q. named q ∙ (ap (λ (o : Option SymbolId). option_or o (if_named changes (cow_str_bytes q.name) (is_same_symbol_id t q.holder) x)) (is.member_names q)
       ∙ sym (member_added changes t x q.holder (cow_str_bytes q.name)))) by
     where
-      child_still : (h : SymbolId) (name : List ℕ) → child_named (changes ++ adds_member t x ∷ []) h name ≡ child_named changes h name
+      child_still : (h : SymbolId) (name : List ℕ) → first_child_named (changes ++ adds_member t x ∷ []) h name ≡ first_child_named changes h name
       child_still h name = rw (children_after-out changes (adds_member t x) h refl) (retained_named changes (changes ++ adds_member t x ∷ []) name
           (children_after changes h) (λ k d lt. name_out changes (adds_member t x) (get_or (children_after changes h) k d) refl))
 
@@ -242,7 +246,7 @@ module _ {b after : ModuleBuilder} {t : SymbolId} {old new : Symbol} (w : Writes
         members = e ∙ (ap (λ es. append_if_absent es x) h.members ∙ sym (members_after-in changes (adds_member t x) t x (only_same t x)));
       }
 
-  pub only_decl : (x : Declaration) → map decl_view new.decls.items ≡ append_decl (map decl_view old.decls.items) x
+  pub only_decl : (x : Declaration) → map decl_view new.decls.items ≡ append_decl_with_overload_flag (map decl_view old.decls.items) x
       → new.tables.exports ≡ old.tables.exports → new.tables.children ≡ old.tables.children → new.tables.members ≡ old.tables.members
       → after.child_names ≡ b.child_names → after.member_names ≡ b.member_names
       → HasAppliedChanges after (changes ++ adds_decl t x ∷ [])
@@ -258,7 +262,7 @@ module _ {b after : ModuleBuilder} {t : SymbolId} {old new : Symbol} (w : Writes
         number = w.number ∙ h.number;
         of_module = w.module_number ∙ h.of_module;
         parent = same_parent (adds_decl t x) refl h;
-        decls = e ∙ (ap (λ ds. append_decl ds x) h.decls ∙ sym (decls_after-in changes (adds_decl t x) t x (only_same t x)));
+        decls = e ∙ (ap (λ ds. append_decl_with_overload_flag ds x) h.decls ∙ sym (decls_after-in changes (adds_decl t x) t x (only_same t x)));
         exports = rw (d, exports_after-out changes (adds_decl t x) t refl) h.exports;
         children = rw (c, children_after-out changes (adds_decl t x) t refl) h.children;
         members = rw (m, members_after-out changes (adds_decl t x) t refl) h.members;
@@ -278,7 +282,7 @@ only_maps b after changes id x lt inner same setting_same cn mn stars_same updat
       symbol_retained b.setting.module_id changes (maps id x) s (get_or b.symbols.items s.0 d) refl (silent_spares id x s) (is.symbols s d below));
   has_no_changes_beyond_count = λ s le. bare_retained changes (maps id x) s (silent_spares id x s) (is.has_no_changes_beyond_count s (rw same at le));
   ids = λ q. updated q
-      ∙ (ap (λ o. cond (is_same_id id q) (Some x) o) (is.ids q) ∙ sym (mapped_symbol_after-maps changes (maps id x) q (is_same_id id q) x refl));
+      ∙ (ap (λ o. cond (is_same_id id q) (Some x) o) (is.ids q) ∙ sym (symbol_of_ident_after_changes-maps changes (maps id x) q (is_same_id id q) x refl));
   child_names = λ q below. rw cn (is.child_names q below ∙ sym (child_quiet changes (maps id x) still q.holder (cow_str_bytes q.name)));
   member_names = λ q. rw mn (is.member_names q ∙ sym (member_quiet changes (maps id x) still q.holder (cow_str_bytes q.name)));
   stars = rw (stars_same, export_stars_after-out changes (maps id x) refl) is.stars;
@@ -303,12 +307,12 @@ only_star b after changes star same setting_same ids_same cn mn pushed is = reco
       symbol_retained b.setting.module_id changes (re_exports_all (export_star_view star)) s (get_or b.symbols.items s.0 d) refl spares (is.symbols s d below));
   has_no_changes_beyond_count =
       λ s le. bare_retained changes (re_exports_all (export_star_view star)) s spares (is.has_no_changes_beyond_count s (rw same at le));
-  ids = λ id. rw (ids_same, mapped_symbol_after-out changes (re_exports_all (export_star_view star)) id refl) (is.ids id);
+  ids = λ id. rw (ids_same, symbol_of_ident_after_changes-out changes (re_exports_all (export_star_view star)) id refl) (is.ids id);
   child_names =
       λ q below. rw cn (is.child_names q below ∙ sym (child_quiet changes (re_exports_all (export_star_view star)) still q.holder (cow_str_bytes q.name)));
   member_names = λ q. rw mn (is.member_names q ∙ sym (member_quiet changes (re_exports_all (export_star_view star)) still q.holder (cow_str_bytes q.name)));
   stars = ap (map export_star_view) pushed ∙ (map-append export_star_view b.stars.items (star ∷ [])
-      ∙ (ap (λ (stars : List Star). stars ++ export_star_view star ∷ []) is.stars
+      ∙ (ap (λ (stars : List ExportStarStatement). stars ++ export_star_view star ∷ []) is.stars
       ∙ sym (export_stars_after-in changes (re_exports_all (export_star_view star)) (export_star_view star) refl)));
   few = rw (same, setting_same) is.few;
   sound = rw same (All-push (NamesSymbolsBelow (length b.symbols.items)) changes (re_exports_all (export_star_view star)) is.sound tt);
@@ -326,38 +330,38 @@ only_star b after changes star same setting_same ids_same cn mn pushed is = reco
 -- A builder with a new symbol and its first declaration.
 module _ (b after : ModuleBuilder) (changes : List Change) (parent : Option SymbolId) (x : Declaration) (t : SymbolId) (new : Symbol) where
   retained_twice : (s : SymbolId) (symbol : Symbol) → s.0 ≢ t.0 → IsSymbolOfChanges b.setting.module_id changes s symbol
-      → IsSymbolOfChanges b.setting.module_id ((changes ++ makes_symbol parent ∷ []) ++ adds_decl t x ∷ []) s symbol
-  retained_twice s symbol other is = symbol_retained b.setting.module_id (changes ++ makes_symbol parent ∷ []) (adds_decl t x) s symbol refl
+      → IsSymbolOfChanges b.setting.module_id ((changes ++ adds_symbol parent ∷ []) ++ adds_decl t x ∷ []) s symbol
+  retained_twice s symbol other is = symbol_retained b.setting.module_id (changes ++ adds_symbol parent ∷ []) (adds_decl t x) s symbol refl
       (record { decl = only_other t s x other; setting = refl; child = refl; member = refl })
       (record {
         number = is.number;
         of_module = is.of_module;
-        parent = rw (parents_after-in changes (makes_symbol parent) parent refl) (slice_get-push (parents_after changes) parent s.0 symbol.parent_id is.parent);
-        decls = rw (decls_after-out changes (makes_symbol parent) s refl) is.decls;
-        exports = rw (exports_after-out changes (makes_symbol parent) s refl) is.exports;
-        children = rw (children_after-out changes (makes_symbol parent) s refl) is.children;
-        members = rw (members_after-out changes (makes_symbol parent) s refl) is.members;
+        parent = rw (parents_after-in changes (adds_symbol parent) parent refl) (slice_get-push (parents_after changes) parent s.0 symbol.parent_id is.parent);
+        decls = rw (decls_after-out changes (adds_symbol parent) s refl) is.decls;
+        exports = rw (exports_after-out changes (adds_symbol parent) s refl) is.exports;
+        children = rw (children_after-out changes (adds_symbol parent) s refl) is.children;
+        members = rw (members_after-out changes (adds_symbol parent) s refl) is.members;
       })
 
-  bare_first : (s : SymbolId) → HasNoChanges changes s → HasNoChanges (changes ++ makes_symbol parent ∷ []) s
-  bare_first s is = bare_retained changes (makes_symbol parent) s (record { decl = refl; setting = refl; child = refl; member = refl }) is
+  bare_first : (s : SymbolId) → HasNoChanges changes s → HasNoChanges (changes ++ adds_symbol parent ∷ []) s
+  bare_first s is = bare_retained changes (adds_symbol parent) s (record { decl = refl; setting = refl; child = refl; member = refl }) is
 
   pub made : HasAppliedChanges b changes → after.symbols.items ≡ b.symbols.items ++ new ∷ [] → t.0 ≡ length b.symbols.items → after.ids ≡ b.ids
       → after.child_names
       ≡ b.child_names → after.member_names ≡ b.member_names → after.stars ≡ b.stars → after.setting ≡ b.setting → length b.symbols.items < b.setting.limit
       → IsLawfulParent t.0 parent → new.symbol_id ≡ t → new.module_id ≡ b.setting.module_id → new.parent_id ≡ parent
-      → map decl_view new.decls.items ≡ append_decl [] x → new.tables ≡ empty_symbol_maps
-      → HasAppliedChanges after ((changes ++ makes_symbol parent ∷ []) ++ adds_decl t x ∷ [])
+      → map decl_view new.decls.items ≡ append_decl_with_overload_flag [] x → new.tables ≡ empty_symbol_maps
+      → HasAppliedChanges after ((changes ++ adds_symbol parent ∷ []) ++ adds_decl t x ∷ [])
   made is pushed number ids_same cn mn stars_same setting_same room lower number_is of_module_is parent_is decls_is tables_are = record {
     count = rw (
       pushed,
-      parents_after-out (changes ++ makes_symbol parent ∷ []) (adds_decl t x) refl,
-      parents_after-in changes (makes_symbol parent) parent refl,
+      parents_after-out (changes ++ adds_symbol parent ∷ []) (adds_decl t x) refl,
+      parents_after-in changes (adds_symbol parent) parent refl,
       length_push b.symbols.items new,
       length_push (parents_after changes) parent,
     ) (ap (λ n. n + 1) is.count);
     symbols = rw setting_same (λ s d lt. by s d lt (cases_eq s.0 t.0));
-    has_no_changes_beyond_count = λ s le. bare_retained (changes ++ makes_symbol parent ∷ []) (adds_decl t x) s (record {
+    has_no_changes_beyond_count = λ s le. bare_retained (changes ++ adds_symbol parent ∷ []) (adds_decl t x) s (record {
       decl = only_other t s x (λ e. absurd (omega (arith, len)));
       setting = refl;
       child = refl;
@@ -365,9 +369,9 @@ module _ (b after : ModuleBuilder) (changes : List Change) (parent : Option Symb
     }) (bare_first s (is.has_no_changes_beyond_count s (omega (arith, len))));
     ids = λ id. rw (
       ids_same,
-      mapped_symbol_after-out (changes ++ makes_symbol parent ∷ []) (adds_decl t x) id refl,
-      mapped_symbol_after-out changes
-          (makes_symbol parent) id refl,
+      symbol_of_ident_after_changes-out (changes ++ adds_symbol parent ∷ []) (adds_decl t x) id refl,
+      symbol_of_ident_after_changes-out changes
+          (adds_symbol parent) id refl,
     )
         (is.ids id);
     child_names = λ q below. rw cn (is.child_names q below
@@ -376,18 +380,18 @@ module _ (b after : ModuleBuilder) (changes : List Change) (parent : Option Symb
         ∙ sym (member_made changes (length b.symbols.items) is.sound parent t x number q.holder (cow_str_bytes q.name)));
     stars = rw (
       stars_same,
-      export_stars_after-out (changes ++ makes_symbol parent ∷ []) (adds_decl t x) refl,
+      export_stars_after-out (changes ++ adds_symbol parent ∷ []) (adds_decl t x) refl,
       export_stars_after-out changes
-          (makes_symbol parent) refl,
+          (adds_symbol parent) refl,
     ) is.stars;
     few = rw setting_same (omega (arith, len));
-    sound = rw len (All-push (NamesSymbolsBelow (length b.symbols.items + 1)) (changes ++ makes_symbol parent ∷ []) (adds_decl t x)
-        (All-push (NamesSymbolsBelow (length b.symbols.items + 1)) changes (makes_symbol parent) (fits_more (length b.symbols.items) changes is.sound) tt)
+    sound = rw len (All-push (NamesSymbolsBelow (length b.symbols.items + 1)) (changes ++ adds_symbol parent ∷ []) (adds_decl t x)
+        (All-push (NamesSymbolsBelow (length b.symbols.items + 1)) changes (adds_symbol parent) (fits_more (length b.symbols.items) changes is.sound) tt)
         (omega (arith, number)));
-    apart = All-push DoesNotBindOrExportModuleSymbol (changes ++ makes_symbol parent ∷ []) (adds_decl t x)
-        (All-push DoesNotBindOrExportModuleSymbol changes (makes_symbol parent) is.apart tt) tt;
+    apart = All-push DoesNotBindOrExportModuleSymbol (changes ++ adds_symbol parent ∷ []) (adds_decl t x)
+        (All-push DoesNotBindOrExportModuleSymbol changes (adds_symbol parent) is.apart tt) tt;
     has_lawful_parents =
-        rw (parents_after-out (changes ++ makes_symbol parent ∷ []) (adds_decl t x) refl, parents_after-in changes (makes_symbol parent) parent refl)
+        rw (parents_after-out (changes ++ adds_symbol parent ∷ []) (adds_decl t x) refl, parents_after-in changes (adds_symbol parent) parent refl)
         (λ n q at. parent_of_symbol_made_by n q (cases_lt n (length (parents_after changes))) at);
     declared = λ s below. declared_by s (cases_eq s.0 t.0) below;
   }
@@ -395,34 +399,34 @@ module _ (b after : ModuleBuilder) (changes : List Change) (parent : Option Symb
       len : length after.symbols.items ≡ length b.symbols.items + 1
       len = rw pushed (length_push b.symbols.items new)
 
-      here : IsSymbolOfChanges b.setting.module_id ((changes ++ makes_symbol parent ∷ []) ++ adds_decl t x ∷ []) t new
+      here : IsSymbolOfChanges b.setting.module_id ((changes ++ adds_symbol parent ∷ []) ++ adds_decl t x ∷ []) t new
       here =
           let bare = bare_first t (is.has_no_changes_beyond_count t (omega (arith, number))) in
           record {
             number = number_is;
             of_module = of_module_is;
             parent = rw (
-              parents_after-out (changes ++ makes_symbol parent ∷ []) (adds_decl t x) refl,
-              parents_after-in changes (makes_symbol parent) parent
+              parents_after-out (changes ++ adds_symbol parent ∷ []) (adds_decl t x) refl,
+              parents_after-in changes (adds_symbol parent) parent
                   refl,
               parent_is,
             )
                 (slice_get-push_last (parents_after changes) parent t.0 (sym is.count ∙ sym number));
-            decls = decls_is ∙ (ap (λ ds. append_decl ds x) (sym bare.decls)
-                ∙ sym (decls_after-in (changes ++ makes_symbol parent ∷ []) (adds_decl t x) t x (only_same t x)));
+            decls = decls_is ∙ (ap (λ ds. append_decl_with_overload_flag ds x) (sym bare.decls)
+                ∙ sym (decls_after-in (changes ++ adds_symbol parent ∷ []) (adds_decl t x) t x (only_same t x)));
             exports = ap (λ (tables : SymbolMapsView). tables.exports) tables_are
-                ∙ (sym bare.exports ∙ sym (exports_after-out (changes ++ makes_symbol parent ∷ []) (adds_decl t x) t refl));
+                ∙ (sym bare.exports ∙ sym (exports_after-out (changes ++ adds_symbol parent ∷ []) (adds_decl t x) t refl));
             children = ap (λ (tables : SymbolMapsView). tables.children) tables_are
-                ∙ (sym bare.children ∙ sym (children_after-out (changes ++ makes_symbol parent ∷ []) (adds_decl t x) t refl));
+                ∙ (sym bare.children ∙ sym (children_after-out (changes ++ adds_symbol parent ∷ []) (adds_decl t x) t refl));
             members = ap (λ (tables : SymbolMapsView). tables.members) tables_are
-                ∙ (sym bare.members ∙ sym (members_after-out (changes ++ makes_symbol parent ∷ []) (adds_decl t x) t refl));
+                ∙ (sym bare.members ∙ sym (members_after-out (changes ++ adds_symbol parent ∷ []) (adds_decl t x) t refl));
           }
 
       by : (s : SymbolId) (d : Symbol) → s.0 < length after.symbols.items → (s.0 ≡ t.0) ⊎ (s.0 ≢ t.0)
-          → IsSymbolOfChanges b.setting.module_id ((changes ++ makes_symbol parent ∷ []) ++ adds_decl t x ∷ []) s (get_or after.symbols.items s.0 d)
+          → IsSymbolOfChanges b.setting.module_id ((changes ++ adds_symbol parent ∷ []) ++ adds_decl t x ∷ []) s (get_or after.symbols.items s.0 d)
       by s d lt (inl same) =
           let at : get_or after.symbols.items t.0 d ≡ new = rw pushed (get_or_push b.symbols.items new d t.0 (sym number)) in
-          let P : ℕ → Type 0 = λ n. IsSymbolOfChanges b.setting.module_id ((changes ++ makes_symbol parent ∷ []) ++ adds_decl t x
+          let P : ℕ → Type 0 = λ n. IsSymbolOfChanges b.setting.module_id ((changes ++ adds_symbol parent ∷ []) ++ adds_decl t x
           ∷ []) (record { 0 = n }) (get_or after.symbols.items n d) in
           subst P (sym same) (rw at here)
       by s d lt (inr other) =
@@ -446,21 +450,22 @@ module _ (b after : ModuleBuilder) (changes : List Change) (parent : Option Symb
           subst P same (subst (IsLawfulParent t.0) read lower)
 
       declared_by : (s : SymbolId) → (s.0 ≡ t.0) ⊎ (s.0 ≢ t.0) → s.0 < length after.symbols.items
-          → 0 < length (decls_after ((changes ++ makes_symbol parent ∷ []) ++ adds_decl t x ∷ []) s)
+          → 0 < length (decls_after ((changes ++ adds_symbol parent ∷ []) ++ adds_decl t x ∷ []) s)
       declared_by s (inl same) below =
-          let P : ℕ → Type 0 = λ m. 0 < length (decls_after ((changes ++ makes_symbol parent ∷ []) ++ adds_decl t x ∷ []) (record { 0 = m })) in
-          let before = decls_after (changes ++ makes_symbol parent ∷ []) t in
-          let more = decls_after-in (changes ++ makes_symbol parent ∷ []) (adds_decl t x) t x (only_same t x) in
-          subst P (sym same) (rw more (rw (length-append before ((record x { has_overloads = is_overload_after (last_decl before) x }) ∷ [])) (omega arith)))
+          let P : ℕ → Type 0 = λ m. 0 < length (decls_after ((changes ++ adds_symbol parent ∷ []) ++ adds_decl t x ∷ []) (record { 0 = m })) in
+          let before = decls_after (changes ++ adds_symbol parent ∷ []) t in
+          let more = decls_after-in (changes ++ adds_symbol parent ∷ []) (adds_decl t x) t x (only_same t x) in
+          subst P (sym same) (rw more (rw (length-append before ((record x { has_overloads = is_overload_after_decl (last_decl before) x }) ∷ []))
+          (omega arith)))
       declared_by s (inr other) below = rw (
-        decls_after-out (changes ++ makes_symbol parent ∷ []) (adds_decl t x) s (only_other t s x other),
-        decls_after-out changes (makes_symbol parent) s refl,
+        decls_after-out (changes ++ adds_symbol parent ∷ []) (adds_decl t x) s (only_other t s x other),
+        decls_after-out changes (adds_symbol parent) s refl,
       ) (is.declared s (omega (arith, len, number, other)))
 
 -- An empty builder has the table of no changes.
 pub empty_table : (b : ModuleBuilder) → b.symbols.items ≡ [] → b.ids.entries ≡ [] → b.child_names.entries ≡ [] → b.member_names.entries ≡ []
     → b.stars.items ≡ [] → HasAppliedChanges b []
-unfolding parents_after decls_after exports_after children_after members_after export_stars_after mapped_symbol_after
+unfolding parents_after decls_after exports_after children_after members_after export_stars_after symbol_of_ident_after_changes
 empty_table b no_symbols no_ids no_children no_members no_stars = record {
   count = ap length no_symbols;
   symbols = λ s d lt. absurd (omega (arith, lt, ap length no_symbols));

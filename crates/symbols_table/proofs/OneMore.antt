@@ -10,11 +10,12 @@ use Rattle.std.proofs.lemmas.List.Sums.{fold-append}
 use Rattle.indexmap.specs.IndexMap.{insert_entry}
 use Rattle.symbols_ast.specs.declared.ids.SymbolId.{SymbolId}
 use Rattle.symbols_ast.specs.Ids.{IdView}
-use Rattle.symbols_table.specs.DeclViews.{Declaration, append_decl}
-use Rattle.symbols_table.specs.Changes.{Change, Star, is_same_symbol_id, some_if, parent_of_symbol_made_by, decl_added_by, export_inserted_by, child_added_by}
-use Rattle.symbols_table.specs.Changes.{member_added_by, symbol_mapped_by, export_star_added_by}
+use Rattle.symbols_table.specs.DeclViews.{Declaration, append_decl_with_overload_flag}
+use Rattle.symbols_table.specs.Changes.{Change, ExportStarStatement, is_same_symbol_id, some_if, parent_of_symbol_made_by, decl_added_by, export_inserted_by}
+use Rattle.symbols_table.specs.Changes.{child_added_by}
+use Rattle.symbols_table.specs.Changes.{member_added_by, symbol_bound_to_ident_by, export_star_added_by}
 use Rattle.symbols_table.specs.Changes.{append_if_absent, parents_after, decls_after, exports_after, children_after, members_after, export_stars_after}
-use Rattle.symbols_table.specs.Changes.{mapped_symbol_after}
+use Rattle.symbols_table.specs.Changes.{symbol_of_ident_after_changes}
 
 -- An element that the filter drops adds nothing.
 pub filter_map-out : {X Y : Type 0} (h : X → Option Y) (xs : List X) (x : X) → h x ≡ None → filter_map h (xs ++ x ∷ []) ≡ filter_map h xs
@@ -46,10 +47,11 @@ module _ (changes : List Change) (change : Change) where
   decls_after-out s out = rw (filter_map-out (decl_added_by s) changes change out) refl
 
   pub decls_after-in : (s : SymbolId) (decl : Declaration) → decl_added_by s change ≡ Some decl
-      → decls_after (changes ++ change ∷ []) s ≡ append_decl (decls_after changes s) decl
+      → decls_after (changes ++ change ∷ []) s ≡ append_decl_with_overload_flag (decls_after changes s) decl
   unfolding decls_after
   decls_after-in s decl is =
-      rw (filter_map-in (decl_added_by s) changes change decl is) (fold-append append_decl [] (filter_map (decl_added_by s) changes) (decl ∷ []))
+      rw (filter_map-in (decl_added_by s) changes change decl is) (fold-append append_decl_with_overload_flag [] (filter_map (decl_added_by s) changes)
+      (decl ∷ []))
 
   pub exports_after-out : (s : SymbolId) → export_inserted_by s change ≡ None → exports_after (changes ++ change ∷ []) s ≡ exports_after changes s
   unfolding exports_after
@@ -87,25 +89,26 @@ module _ (changes : List Change) (change : Change) where
   unfolding export_stars_after
   export_stars_after-out out = filter_map-out export_star_added_by changes change out
 
-  pub export_stars_after-in : (star : Star) → export_star_added_by change ≡ Some star → export_stars_after (changes ++ change ∷ []) ≡ export_stars_after changes
+  pub export_stars_after-in : (star : ExportStarStatement) → export_star_added_by change ≡ Some star → export_stars_after (changes ++ change ∷ [])
+      ≡ export_stars_after changes
       ++ star ∷ []
   unfolding export_stars_after
   export_stars_after-in star is = filter_map-in export_star_added_by changes change star is
 
-  pub mapped_symbol_after-out : (id : IdView) → symbol_mapped_by id change ≡ None
-      → mapped_symbol_after (changes ++ change ∷ []) id ≡ mapped_symbol_after changes id
-  unfolding mapped_symbol_after
-  mapped_symbol_after-out id out = rw (filter_map-out (symbol_mapped_by id) changes change out) refl
+  pub symbol_of_ident_after_changes-out : (id : IdView) → symbol_bound_to_ident_by id change ≡ None
+      → symbol_of_ident_after_changes (changes ++ change ∷ []) id ≡ symbol_of_ident_after_changes changes id
+  unfolding symbol_of_ident_after_changes
+  symbol_of_ident_after_changes-out id out = rw (filter_map-out (symbol_bound_to_ident_by id) changes change out) refl
 
 last_or-push : {A : Type 0} (o : Option A) (xs : List A) (x : A) → last_or o (xs ++ x ∷ []) ≡ Some x
 last_or-push o [] x = refl
 last_or-push o (y ∷ ys) x = last_or-push (Some y) ys x
 
 -- After a binding, that identifier is bound to its symbol, and others are bound as before.
-pub mapped_symbol_after-maps : (changes : List Change) (change : Change) (id : IdView) (same : Bool) (x : SymbolId)
-    → symbol_mapped_by id change ≡ some_if same x
-    → mapped_symbol_after (changes ++ change ∷ []) id ≡ cond same (Some x) (mapped_symbol_after changes id)
-unfolding mapped_symbol_after
-mapped_symbol_after-maps changes change id true x is =
-    rw (filter_map-in (symbol_mapped_by id) changes change x is) (last_or-push None (filter_map (symbol_mapped_by id) changes) x)
-mapped_symbol_after-maps changes change id false x is = rw (filter_map-out (symbol_mapped_by id) changes change is) refl
+pub symbol_of_ident_after_changes-maps : (changes : List Change) (change : Change) (id : IdView) (same : Bool) (x : SymbolId)
+    → symbol_bound_to_ident_by id change ≡ some_if same x
+    → symbol_of_ident_after_changes (changes ++ change ∷ []) id ≡ cond same (Some x) (symbol_of_ident_after_changes changes id)
+unfolding symbol_of_ident_after_changes
+symbol_of_ident_after_changes-maps changes change id true x is =
+    rw (filter_map-in (symbol_bound_to_ident_by id) changes change x is) (last_or-push None (filter_map (symbol_bound_to_ident_by id) changes) x)
+symbol_of_ident_after_changes-maps changes change id false x is = rw (filter_map-out (symbol_bound_to_ident_by id) changes change is) refl

@@ -12,7 +12,7 @@ use Rattle.symbols_table.specs.declared.builder.table.ModuleBuilder.{ModuleBuild
 use Rattle.symbols_table.specs.declared.builder.table.BuildFault.{BuildFault}
 use Rattle.symbols_table.specs.declared.builder.table.BuildFault.TheVariants.{TooManySymbols}
 use Rattle.symbols_table.specs.DeclViews.{Declaration}
-use Rattle.symbols_table.specs.Changes.{Change, makes_symbol, adds_decl, parent_of_symbol_made_by, parents_after}
+use Rattle.symbols_table.specs.Changes.{Change, adds_symbol, adds_decl, parent_of_symbol_made_by, parents_after}
 use Rattle.symbols_table.specs.Events.{DeclarationEvent, EventEffect, new_symbol_effect, next_symbol_id, effect_of_event, changes_of_effects}
 use Rattle.symbols_table.specs.Events.{symbol_of_event_at, effects_after_events}
 use Rattle.symbols_table.specs.inner.Tables.{HasAppliedChanges, AppliesEffectAndReturnsSymbol}
@@ -34,15 +34,15 @@ past_limit before parent decl more limit count e le = rw (length-parents_after-a
 -- A builder with the new symbol has the changes of its row.
 pub new_reads : (b : ModuleBuilder) (before : List Change) (parent : Option SymbolId) (decl : Declaration) (more : SymbolId → List Change) (s : SymbolId)
     → s.0 ≡ length (parents_after before)
-    → HasAppliedChanges b (((before ++ makes_symbol parent ∷ []) ++ adds_decl s decl ∷ []) ++ more s)
+    → HasAppliedChanges b (((before ++ adds_symbol parent ∷ []) ++ adds_decl s decl ∷ []) ++ more s)
     → ((new_symbol_effect before parent decl more).symbol ≡ Some s) × HasAppliedChanges b (before ++ (new_symbol_effect before parent decl more).changes)
 new_reads b before parent decl more s number is =
     let next : s ≡ next_symbol_id before = ap (λ (n : ℕ). let t : SymbolId = record { 0 = n } in t) number in
-    let joined : HasAppliedChanges b (before ++ (makes_symbol parent ∷ adds_decl s decl ∷ more s)) =
-    subst (HasAppliedChanges b) (append_assoc (before ++ makes_symbol parent ∷ []) (adds_decl s decl ∷ []) (more s)
-    ∙ append_assoc before (makes_symbol parent ∷ []) (adds_decl s decl ∷ more s)) is in (
+    let joined : HasAppliedChanges b (before ++ (adds_symbol parent ∷ adds_decl s decl ∷ more s)) =
+    subst (HasAppliedChanges b) (append_assoc (before ++ adds_symbol parent ∷ []) (adds_decl s decl ∷ []) (more s)
+    ∙ append_assoc before (adds_symbol parent ∷ []) (adds_decl s decl ∷ more s)) is in (
       ap (λ (t : SymbolId). Some t) (sym next),
-      subst (λ (t : SymbolId). HasAppliedChanges b (before ++ (makes_symbol parent ∷ adds_decl t decl ∷ more t))) next
+      subst (λ (t : SymbolId). HasAppliedChanges b (before ++ (adds_symbol parent ∷ adds_decl t decl ∷ more t))) next
           joined,
     )
 

@@ -7,7 +7,7 @@ use Rattle.symbols_ast.specs.declared.tree.arena.Tree.{Tree}
 use Rattle.symbols_ast.specs.declared.tree.arena.Node.{Node}
 use Rattle.symbols_table.specs.declared.info.re_exports.StarStatement.{StarStatement}
 use Rattle.symbols_table.specs.ModuleViews.{export_star_view}
-use Rattle.symbols_table.specs.Changes.{Star}
+use Rattle.symbols_table.specs.Changes.{ExportStarStatement}
 use Rattle.symbols_table.specs.Laws.{export_star_specifier, IsExportStarInTree}
 
 abbrev AreLeft : Tree → Iter StarStatement → Type 0
@@ -20,7 +20,7 @@ left_after tree s t (Some x) all e =
     subst (λ (xs : List StarStatement). All (IsExportStarInTree tree) (map export_star_view xs)) e all in
     λ k d h. read (suc k) d (omega (arith, h))
 
-pub star_inside : (tree : Tree) (star : Star) → IsExportStarInTree tree star → star.number < length tree.nodes.items
+pub star_inside : (tree : Tree) (star : ExportStarStatement) → IsExportStarInTree tree star → star.number < length tree.nodes.items
 star_inside tree star is =
     let past : length tree.nodes.items ≤ star.number → ⊥ = λ le.
     let none : None ≡ Some star.specifier_text =

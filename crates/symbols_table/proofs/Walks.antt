@@ -9,10 +9,10 @@ use Rattle.symbols_table.specs.declared.builder.table.ModuleBuilder.{ModuleBuild
 use Rattle.symbols_table.specs.declared.builder.table.BuildFault.{BuildFault}
 use Rattle.symbols_table.specs.declared.builder.table.BuildFault.TheVariants.{TooManySymbols}
 use Rattle.symbols_table.specs.DeclViews.{Declaration}
-use Rattle.symbols_table.specs.Changes.{Change, makes_symbol, adds_decl, parents_after}
+use Rattle.symbols_table.specs.Changes.{Change, adds_symbol, adds_decl, parents_after}
 use Rattle.symbols_table.specs.Events.{DeclarationEvent, EventEffect, begins, new_symbol_effect, effect_of_event, changes_of_effects, symbol_of_event_at}
 use Rattle.symbols_table.specs.Events.{effects_after_events}
-use Rattle.symbols_table.specs.EventsByPosition.{EventsByPosition, no_events_by_position, events_if_some, events_of_each}
+use Rattle.symbols_table.specs.EventsByHolderAndStart.{EventsByHolderAndStart, no_events_by_holder_and_start, events_if_some, events_of_each}
 use Rattle.symbols_table.specs.inner.Tables.{HasAppliedChanges, HasValidTable, AppliesEffects, AppliesEventsUnderHolder}
 use Rattle.symbols_table.specs.inner.ModuleBuilderSteps.{KeepsTableValid}
 use Rattle.symbols_table.specs.declared.builder.table.Setting.{Setting}
@@ -21,7 +21,7 @@ use Rattle.symbols_table.proofs.Rows.{new_reads, changes_of_effects-push, effect
 use Rattle.symbols_table.proofs.Rows.{effects_after_events-append, length-effects_after_events, symbol_at_after, parents_after_grow}
 
 -- The events of a part, followed by those of another under the same holder.
-abbrev pub followed_by : EventsByPosition → EventsByPosition → EventsByPosition
+abbrev pub followed_by : EventsByHolderAndStart → EventsByHolderAndStart → EventsByHolderAndStart
 followed_by first next holder start = first holder start ++ next holder (start + length (first holder start))
 
 -- No event leaves the table unchanged.
@@ -30,19 +30,20 @@ pub none_read : (b : ModuleBuilder) (rows : List EventEffect) → HasAppliedChan
 none_read b rows is = rw (effects_after_events-nil rows) is
 
 -- An absent part has no events.
-pub on_none : {A : Type 0} (b : ModuleBuilder) (rows : List EventEffect) (found : Option A) (walk : A → EventsByPosition) (h start : ℕ) → found ≡ None
+pub on_none : {A : Type 0} (b : ModuleBuilder) (rows : List EventEffect) (found : Option A) (walk : A → EventsByHolderAndStart) (h start : ℕ) → found ≡ None
     → HasAppliedChanges b (changes_of_effects rows) → HasAppliedChanges b (changes_of_effects (effects_after_events rows (events_if_some found walk h start)))
 on_none {A} b rows found walk h start e is = rw e (none_read b rows is)
 
 -- The events of a present part.
-pub on_some : {A : Type 0} (b : ModuleBuilder) (rows : List EventEffect) (found : Option A) (x : A) (walk : A → EventsByPosition) (h start : ℕ) → found ≡ Some x
+pub on_some : {A : Type 0} (b : ModuleBuilder) (rows : List EventEffect) (found : Option A) (x : A) (walk : A → EventsByHolderAndStart) (h start : ℕ) → found
+    ≡ Some x
     → HasAppliedChanges b (changes_of_effects (effects_after_events rows (walk x h start)))
     → HasAppliedChanges b (changes_of_effects (effects_after_events rows (events_if_some found walk h start)))
 on_some b rows found x walk h start e is = rw e is
 
 -- A call on a present part applies its events.
 pub on_reads : {A R : Type 0} (r : Result R BuildFault) (limit : ℕ) (new : ModuleBuilder) (rows : List EventEffect) (found : Option A) (x : A) (walk : A
-    → EventsByPosition) (h start : ℕ) → found ≡ Some x → AppliesEffects r limit new (effects_after_events rows (walk x h start))
+    → EventsByHolderAndStart) (h start : ℕ) → found ≡ Some x → AppliesEffects r limit new (effects_after_events rows (walk x h start))
     → AppliesEffects r limit new (effects_after_events rows (events_if_some found walk h start))
 on_reads r limit new rows found x walk h start e is = rw e is
 
@@ -69,7 +70,7 @@ err_all (Err e) limit new rows event row events fault is h full = λ many.
     rw (effects_after_events-step rows event events row is) (omega (arith, there, parents_after_grow (rows ++ row ∷ []) events))
 
 -- The events of a concatenated list are those of its parts in order.
-pub each-append : {A : Type 0} (walk : A → EventsByPosition) (h start : ℕ) (xs ys : List A)
+pub each-append : {A : Type 0} (walk : A → EventsByHolderAndStart) (h start : ℕ) (xs ys : List A)
     → events_of_each walk (xs ++ ys) h start ≡ followed_by (events_of_each walk xs) (events_of_each walk ys) h start
 each-append walk h start [] ys = let e : start + 0 ≡ start = omega arith in rw e refl
 each-append walk h start (x ∷ xs) ys =
@@ -79,7 +80,7 @@ each-append walk h start (x ∷ xs) ys =
     let e : (start + length first) + length after ≡ start + length (first ++ after) = omega (arith, length-append first after) in
     ap (λ es. first ++ es) rest ∙ rw e (sym (append_assoc first after (events_of_each walk ys h (start + length (first ++ after)))))
 
-pub each-more : {A : Type 0} (walk : A → EventsByPosition) (h start : ℕ) (xs : List A) (x : A)
+pub each-more : {A : Type 0} (walk : A → EventsByHolderAndStart) (h start : ℕ) (xs : List A) (x : A)
     → events_of_each walk (xs ++ x ∷ []) h start ≡ followed_by (events_of_each walk xs) (walk x) h start
 each-more walk h start xs x = each-append walk h start xs (x ∷ [])
     ∙ ap (λ (es : List DeclarationEvent). events_of_each walk xs h start ++ es) (append-nil (walk x h (start + length (events_of_each walk xs h start))))
@@ -94,14 +95,14 @@ split_item items i n below is =
     ∙ take-append-drop (suc i) items
 
 -- A builder that has applied the events of a part under a holder.
-pub record IsWalked (begun now : ModuleBuilder) (walk : EventsByPosition) (holder : SymbolId) : Type 0 where
+pub record IsWalked (begun now : ModuleBuilder) (walk : EventsByHolderAndStart) (holder : SymbolId) : Type 0 where
   pub filled : HasValidTable now
   pub setting : now.setting ≡ begun.setting
   pub longer : length begun.symbols.items ≤ length now.symbols.items
   pub table : (rows : List EventEffect) (h : ℕ) → HasAppliedChanges begun (changes_of_effects rows) → symbol_of_event_at rows h ≡ Some holder
       → HasAppliedChanges now (changes_of_effects (effects_after_events rows (walk h (length rows))))
 
-rows_then : (rows : List EventEffect) (first next : EventsByPosition) (h : ℕ)
+rows_then : (rows : List EventEffect) (first next : EventsByHolderAndStart) (h : ℕ)
     → effects_after_events rows (followed_by first next h (length rows))
     ≡ effects_after_events (effects_after_events rows (first h (length rows))) (next h (length (effects_after_events rows (first h (length rows)))))
 rows_then rows first next h =
@@ -112,11 +113,11 @@ rows_then rows first next h =
     )
     refl
 
-pub walked_none : (b : ModuleBuilder) (holder : SymbolId) → HasValidTable b → IsWalked b b no_events_by_position holder
+pub walked_none : (b : ModuleBuilder) (holder : SymbolId) → HasValidTable b → IsWalked b b no_events_by_holder_and_start holder
 walked_none b holder filled = record { filled = filled; setting = refl; longer = omega arith; table = λ rows h is at. rw (effects_after_events-nil rows) is }
 
-pub walked_then : {A : Type 0} {begun now : ModuleBuilder} {first : EventsByPosition} {holder : SymbolId} (w : IsWalked begun now first holder)
-    (next : ModuleBuilder) (then : EventsByPosition) (x : A)
+pub walked_then : {A : Type 0} {begun now : ModuleBuilder} {first : EventsByHolderAndStart} {holder : SymbolId} (w : IsWalked begun now first holder)
+    (next : ModuleBuilder) (then : EventsByHolderAndStart) (x : A)
     → KeepsTableValid (Ok x) now next → AppliesEventsUnderHolder (Ok x) now next then holder → IsWalked begun next (followed_by first then) holder
 walked_then {A} {begun} {now} {first} {holder} w next then x keeps reads = record {
   filled = keeps.filled;
@@ -128,8 +129,9 @@ walked_then {A} {begun} {now} {first} {holder} w next then x keeps reads = recor
 }
 
 -- The last call of a part completes it.
-pub walked_last : {A : Type 0} {begun now : ModuleBuilder} {first : EventsByPosition} {holder : SymbolId} (w : IsWalked begun now first holder) (r : Result A
-    BuildFault) (next : ModuleBuilder) (then : EventsByPosition) → AppliesEventsUnderHolder r now next then holder
+pub walked_last : {A : Type 0} {begun now : ModuleBuilder} {first : EventsByHolderAndStart} {holder : SymbolId} (w : IsWalked begun now first holder)
+    (r : Result A
+    BuildFault) (next : ModuleBuilder) (then : EventsByHolderAndStart) → AppliesEventsUnderHolder r now next then holder
     → AppliesEventsUnderHolder r begun next (followed_by first then) holder
 walked_last {A} {begun} {now} {first} {holder} w (Ok x) next then reads rows h is at =
     rw (rows_then rows first then h) (reads (effects_after_events rows (first h (length rows))) h (w.table rows h is at)
@@ -139,8 +141,9 @@ walked_last {A} {begun} {now} {first} {holder} w (Err e) next then reads rows h 
     (reads (effects_after_events rows (first h (length rows))) h (w.table rows h is at) (symbol_at_after rows (first h (length rows)) h holder at) many)
 
 -- A fault at a call that would be followed by others.
-pub walked_fault : (A : Type 0) {B : Type 0} {begun now : ModuleBuilder} {first : EventsByPosition} {holder : SymbolId} (w : IsWalked begun now first holder)
-    (next new : ModuleBuilder) (then rest : EventsByPosition) (fault : BuildFault) (r : Result B BuildFault)
+pub walked_fault : (A : Type 0) {B : Type 0} {begun now : ModuleBuilder} {first : EventsByHolderAndStart} {holder : SymbolId}
+    (w : IsWalked begun now first holder)
+    (next new : ModuleBuilder) (then rest : EventsByHolderAndStart) (fault : BuildFault) (r : Result B BuildFault)
     → IsErrAnd r (λ e. e ≡ fault) → AppliesEventsUnderHolder {A = A} (Err fault) now next then holder
     → AppliesEventsUnderHolder r begun new (followed_by (followed_by first then) rest) holder
 walked_fault A {B} {begun} {now} {first} {holder} w next new then rest fault (Ok x) h reads rows index is at = absurd h
@@ -153,11 +156,12 @@ walked_fault A {B} {begun} {now} {first} {holder} w next new then rest fault (Er
     (omega (arith, here, parents_after_grow (effects_after_events rows (both index (length rows))) after))
 
 -- A call that applies events also applies an equal function of events.
-pub read_as : {A : Type 0} (r : Result A BuildFault) (old new : ModuleBuilder) (walk : EventsByPosition) (holder : SymbolId) (other : EventsByPosition)
+pub read_as : {A : Type 0} (r : Result A BuildFault) (old new : ModuleBuilder) (walk : EventsByHolderAndStart) (holder : SymbolId)
+    (other : EventsByHolderAndStart)
     → ((h start : ℕ) → other h start ≡ walk h start) → AppliesEventsUnderHolder r old new walk holder → AppliesEventsUnderHolder r old new other holder
 read_as r old new walk holder other same reads rows h is at = rw (same h (length rows)) (reads rows h is at)
 
-pub walked_as : {begun now : ModuleBuilder} (walk : EventsByPosition) {holder : SymbolId} (other : EventsByPosition)
+pub walked_as : {begun now : ModuleBuilder} (walk : EventsByHolderAndStart) {holder : SymbolId} (other : EventsByHolderAndStart)
     → ((h start : ℕ) → other h start ≡ walk h start)
     → IsWalked begun now walk holder → IsWalked begun now other holder
 walked_as {begun} {now} walk {holder} other same w =
@@ -165,19 +169,20 @@ walked_as {begun} {now} walk {holder} other same w =
 
 -- ---- a loop over a list of parts
 
-pub each_none : {A : Type 0} (b : ModuleBuilder) (walk : A → EventsByPosition) (holder : SymbolId) → HasValidTable b
+pub each_none : {A : Type 0} (b : ModuleBuilder) (walk : A → EventsByHolderAndStart) (holder : SymbolId) → HasValidTable b
     → IsWalked b b (events_of_each walk []) holder
 each_none b walk holder filled = walked_none b holder filled
 
 pub each_next : {A : Type 0} {begun now : ModuleBuilder} (walk : ℕ
-    → EventsByPosition) (items : List ℕ) {holder : SymbolId} (w : IsWalked begun now (events_of_each walk items) holder) (next : ModuleBuilder) (n : ℕ) (x : A)
+    → EventsByHolderAndStart) (items : List ℕ) {holder : SymbolId} (w : IsWalked begun now
+    (events_of_each walk items) holder) (next : ModuleBuilder) (n : ℕ) (x : A)
     → KeepsTableValid (Ok x) now next → AppliesEventsUnderHolder (Ok x) now next (walk n) holder
     → IsWalked begun next (events_of_each walk (items ++ n ∷ [])) holder
 each_next {A} {begun} {now} walk items {holder} w next n x keeps reads =
     walked_as (followed_by (events_of_each walk items) (walk n)) (events_of_each walk (items ++ n ∷ [])) (λ h start. each-more walk h start items n)
     (walked_then w next (walk n) x keeps reads)
 
-pub each_fault : (A : Type 0) {B : Type 0} {begun now : ModuleBuilder} (walk : ℕ → EventsByPosition) (items : List ℕ) {holder : SymbolId}
+pub each_fault : (A : Type 0) {B : Type 0} {begun now : ModuleBuilder} (walk : ℕ → EventsByHolderAndStart) (items : List ℕ) {holder : SymbolId}
     (w : IsWalked begun now
     (events_of_each walk items) holder) (next new : ModuleBuilder) (n : ℕ) (rest : List ℕ) (fault : BuildFault) (r : Result B BuildFault)
     → IsErrAnd r (λ e. e ≡ fault) → AppliesEventsUnderHolder {A = A} (Err fault) now next (walk n) holder
@@ -201,7 +206,7 @@ first_step decl events = effects_after_events-step [] (begins decl) events (firs
 
 pub begun_read : (b0 b1 : ModuleBuilder) (decl : Declaration) (s : SymbolId) → b0.symbols.items ≡ [] → b0.ids.entries ≡ [] → b0.child_names.entries ≡ []
     → b0.member_names.entries ≡ [] → b0.stars.items ≡ [] → s.0 ≡ length b0.symbols.items
-    → ((changes : List Change) → HasAppliedChanges b0 changes → HasAppliedChanges b1 ((changes ++ makes_symbol None ∷ []) ++ adds_decl s decl ∷ []))
+    → ((changes : List Change) → HasAppliedChanges b0 changes → HasAppliedChanges b1 ((changes ++ adds_symbol None ∷ []) ++ adds_decl s decl ∷ []))
     → HasAppliedChanges b1 (changes_of_effects (first_row decl ∷ [])) × (symbol_of_event_at (first_row decl ∷ []) 0 ≡ Some s)
 unfolding changes_of_effects symbol_of_event_at parents_after
 begun_read b0 b1 decl s no_symbols no_ids no_children no_members no_stars number made =

@@ -9,12 +9,13 @@ use Rattle.symbols_table.specs.declared.info.module_info.ModuleInfo.{ModuleInfo}
 use Rattle.symbols_table.specs.declared.info.fault.SymbolsFault.{SymbolsFault}
 use Rattle.symbols_table.specs.declared.info.fault.SymbolsFault.TheVariants as fault
 use Rattle.symbols_table.specs.Changes.{Change, parents_after, export_insertions_after, AreExportsOfInsertions, exports_after, export_stars_after}
-use Rattle.symbols_table.specs.Changes.{mapped_symbol_after}
+use Rattle.symbols_table.specs.Changes.{symbol_of_ident_after_changes}
 use Rattle.symbols_table.specs.Events.{changes_of_events}
 use Rattle.symbols_table.specs.TreeEvents.{tree_events}
 use Rattle.symbols_table.specs.JsonEvents.{json_events}
 use Rattle.symbols_table.specs.SymbolViews.{symbol_after_changes}
-use Rattle.symbols_table.specs.Modules.{AnalyzableSource, parsed, json_text, analyzable_source, SymbolTable, symbol_table_of, symbol_in, mapped_symbol_in}
+use Rattle.symbols_table.specs.Modules.{AnalyzableSource, parsed, json_text, analyzable_source, SymbolTable, symbol_table_of, symbol_in_table}
+use Rattle.symbols_table.specs.Modules.{symbol_of_ident_in_table}
 
 -- The changes made by the events of a tree, and by those of a JSON text.
 abbrev pub table_changes_from_tree : Tree → List Change
@@ -33,10 +34,10 @@ symbol_count changes = length (parents_after changes)
 
 -- The table has the contents that the changes give: its symbols with all that their views show, the bindings of identifiers, and the
 -- `export *` statements. The exports have each name once, at the position of its first setting, with the symbol of its last.
-pub record IsTableMadeBy (table : SymbolTable) (changes : List Change) : Type 0 where
-  pub symbols : (s : SymbolId) → symbol_in table s ≡ symbol_after_changes changes s
+pub record IsTableMadeByChanges (table : SymbolTable) (changes : List Change) : Type 0 where
+  pub symbols : (s : SymbolId) → symbol_in_table table s ≡ symbol_after_changes changes s
   pub exports_of_each_symbol : (s : SymbolId) → AreExportsOfInsertions (export_insertions_after changes s) (exports_after changes s)
-  pub names : (id : IdView) → mapped_symbol_in table id ≡ mapped_symbol_after changes id
+  pub names : (id : IdView) → symbol_of_ident_in_table table id ≡ symbol_of_ident_after_changes changes id
   pub stars : table.stars ≡ export_stars_after changes
 
 -- The table has this module number and specifier, and the contents that the source's events give.
@@ -44,7 +45,7 @@ pub record IsAnalyzedTable (module_id : ModuleId) (name : List ℕ) (content : A
   pub number : table.module_id ≡ module_id
   pub specifier : table.specifier ≡ name
   pub source : table.source ≡ content
-  pub tables : IsTableMadeBy table (table_changes_from_tree_or_json content)
+  pub tables : IsTableMadeByChanges table (table_changes_from_tree_or_json content)
   pub within : symbol_count (table_changes_from_tree_or_json content) ≤ limit
 
 -- The result is `None` if the module has no source of symbols, and else the analyzed module.

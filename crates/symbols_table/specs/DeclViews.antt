@@ -110,13 +110,13 @@ last_decl decls = slice_get decls (length decls - 1)
 
 -- A declaration gets the overload flag if its symbol has an earlier declaration, it has a body, and it is one of these: a function right
 -- after a function; a method that is no getter or setter; a constructor.
-abbrev pub is_overload_after : Option Declaration → Declaration → Bool
-is_overload_after None decl = false
-is_overload_after (Some before) decl = decl_node_satisfies has_body decl
+abbrev pub is_overload_after_decl : Option Declaration → Declaration → Bool
+is_overload_after_decl None decl = false
+is_overload_after_decl (Some before) decl = decl_node_satisfies has_body decl
     && (if decl_node_satisfies is_function decl then decl_node_satisfies is_function before else decl_node_satisfies is_method decl)
 
-abbrev pub append_decl : List Declaration → Declaration → List Declaration
-append_decl decls decl = decls ++ (record decl { has_overloads = is_overload_after (last_decl decls) decl }) ∷ []
+abbrev pub append_decl_with_overload_flag : List Declaration → Declaration → List Declaration
+append_decl_with_overload_flag decls decl = decls ++ (record decl { has_overloads = is_overload_after_decl (last_decl decls) decl }) ∷ []
 
 -- The exports of a symbol, with names as bytes.
 abbrev pub exports_view : List (String Global × SymbolId) → List (List ℕ × SymbolId)

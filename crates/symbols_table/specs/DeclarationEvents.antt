@@ -14,8 +14,9 @@ use Rattle.symbols_nodes.specs.NodeViews.{exported_ts_interface, exported_ts_mod
 use Rattle.symbols_table.specs.declared.builder.scope.Scope.{Scope}
 use Rattle.symbols_table.specs.DeclViews.{Declaration, definition_of_node}
 use Rattle.symbols_table.specs.Events.{DeclarationEvent, declare, child, export}
-use Rattle.symbols_table.specs.EventsByPosition.{EventsByPosition, no_events_by_position, events_if_some, events_followed_by, events_of_each, range_or_empty}
-use Rattle.symbols_table.specs.EventsByPosition.{child_ident_id}
+use Rattle.symbols_table.specs.EventsByHolderAndStart.{EventsByHolderAndStart, no_events_by_holder_and_start, events_if_some, events_followed_by}
+use Rattle.symbols_table.specs.EventsByHolderAndStart.{events_of_each, range_or_empty}
+use Rattle.symbols_table.specs.EventsByHolderAndStart.{id_of_ident_child}
 use Rattle.symbols_table.specs.Patterns.{pattern_bindings}
 use Rattle.symbols_table.specs.MemberEvents.{member_events_at, member_nodes}
 
@@ -35,22 +36,22 @@ maybe_exported_node None decl = unexported_node_view decl
 maybe_exported_node (Some node) decl = export_decl node decl
 
 -- The range of the `export`, or of the declaration if it has no `export`.
-abbrev pub statement_range : Option TreeNode → TreeNode → SourceRange
-statement_range exported node = range_or_empty (unwrap_or exported node)
+abbrev pub export_or_decl_range : Option TreeNode → TreeNode → SourceRange
+export_or_decl_range exported node = range_or_empty (unwrap_or exported node)
 
 -- A declaration is exported if it has `export`, or if it is ambient in a namespace.
 abbrev pub is_exported : Scope → Option TreeNode → Bool
 is_exported scope exported = is_some exported || (scope.ambient && not scope.is_module)
 
-abbrev pub export_if : Bool → ℕ → List ℕ → ℕ → List DeclarationEvent
-export_if test holder name of = if test then export holder name of ∷ [] else []
+abbrev pub export_event_if : Bool → ℕ → List ℕ → ℕ → List DeclarationEvent
+export_event_if test holder name of = if test then export holder name of ∷ [] else []
 
 -- The symbol becomes a child of its holder, and an export of it if it is exported.
 abbrev pub child_and_export_events : Bool → ℕ → List ℕ → ℕ → List DeclarationEvent
-child_and_export_events test holder name of = child holder of ∷ export_if test holder name of
+child_and_export_events test holder name of = child holder of ∷ export_event_if test holder name of
 
 -- An identifier is declared. The events of its inner declarations follow, and then it is added to its holder.
-abbrev pub declare_and_add_events : Bool → IdView → Declaration → EventsByPosition → EventsByPosition
+abbrev pub declare_and_add_events : Bool → IdView → Declaration → EventsByHolderAndStart → EventsByHolderAndStart
 declare_and_add_events test id decl inner holder start = events_followed_by (declare holder id decl ∷ []) (inner start) start
     ++ child_and_export_events test holder id.name start
 
@@ -68,24 +69,24 @@ pub record VariableStatement : Type 0 where
   pub decl : TreeNode
 
 -- The events of an identifier that a declarator's pattern binds. It is declared at the range of the declarator.
-abbrev pub binding_events : VariableStatement → TreeNode → TreeNode → EventsByPosition
+abbrev pub binding_events : VariableStatement → TreeNode → TreeNode → EventsByHolderAndStart
 binding_events vars declarator ident =
     events_if_some (option_and_then ident_id (kind_of ident))
     (λ (id : Id). declare_and_add_events (is_exported vars.scope vars.exported) (id_view id)
-    (definition_of_node (variable_node vars.exported vars.is_using vars.decl declarator ident) (range_or_empty declarator)) no_events_by_position)
+    (definition_of_node (variable_node vars.exported vars.is_using vars.decl declarator ident) (range_or_empty declarator)) no_events_by_holder_and_start)
 
-abbrev pub binding_events_at : VariableStatement → TreeNode → ℕ → EventsByPosition
+abbrev pub binding_events_at : VariableStatement → TreeNode → ℕ → EventsByHolderAndStart
 binding_events_at vars declarator n = events_if_some (node_in vars.decl.tree (Some n)) (binding_events vars declarator)
 
 -- The events of a declarator: each identifier that its pattern binds, in order.
-abbrev pub declarator_events : VariableStatement → TreeNode → EventsByPosition
+abbrev pub declarator_events : VariableStatement → TreeNode → EventsByHolderAndStart
 declarator_events vars declarator = events_if_some (child_in_field declarator name_of)
     (λ (pattern : TreeNode). events_of_each (binding_events_at vars declarator) (pattern_bindings vars.decl.tree pattern.number))
 
-abbrev pub declarator_events_at : VariableStatement → ℕ → EventsByPosition
+abbrev pub declarator_events_at : VariableStatement → ℕ → EventsByHolderAndStart
 declarator_events_at vars n = events_if_some (node_in vars.decl.tree (Some n)) (declarator_events vars)
 
-abbrev pub variable_statement_events : VariableStatement → EventsByPosition
+abbrev pub variable_statement_events : VariableStatement → EventsByHolderAndStart
 variable_statement_events vars = events_of_each (declarator_events_at vars) (child_list_in_field vars.decl decls_of)
 
 -- ---- declarations with an identifier
@@ -100,18 +101,18 @@ export_decl_view_of_kind node _ = None
 
 -- The identifier of a declaration, which is in one of two fields.
 abbrev pub declared_name : TreeNode → Option Id
-declared_name node = option_or (child_ident_id ident_of node) (child_ident_id id_of node)
+declared_name node = option_or (id_of_ident_child ident_of node) (id_of_ident_child id_of node)
 
 -- The identifier is declared at the range of the whole statement, with its members.
-abbrev pub named_decl_events : Scope → Option TreeNode → TreeNode → ExportDeclView → EventsByPosition
+abbrev pub named_decl_events : Scope → Option TreeNode → TreeNode → ExportDeclView → EventsByHolderAndStart
 named_decl_events scope exported node form =
     events_if_some (declared_name node)
     (λ (id : Id). declare_and_add_events (is_exported scope exported) (id_view id)
-    (definition_of_node (maybe_exported_node exported form) (statement_range exported node))
+    (definition_of_node (maybe_exported_node exported form) (export_or_decl_range exported node))
     (events_of_each (member_events_at node.tree) (member_nodes node)))
 
 -- The events of a declaration, with the `export` before it, if any.
-abbrev pub declaration_events : Scope → Option TreeNode → TreeNode → Kind → EventsByPosition
+abbrev pub declaration_events : Scope → Option TreeNode → TreeNode → Kind → EventsByHolderAndStart
 declaration_events scope exported node (Kind.Decl (Decl.VarDecl _)) =
     variable_statement_events (record { scope = scope; exported = exported; is_using = false; decl = node })
 declaration_events scope exported node (Kind.Decl (Decl.UsingDecl _)) =

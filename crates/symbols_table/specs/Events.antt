@@ -5,8 +5,8 @@ use Rattle.std.specs.Option.{option_or}
 use Rattle.symbols_ast.specs.declared.ids.SymbolId.{SymbolId}
 use Rattle.symbols_ast.specs.Ids.{IdView}
 use Rattle.symbols_table.specs.DeclViews.{Declaration, decl_name, is_definition}
-use Rattle.symbols_table.specs.Changes.{Change, Star, makes_symbol, adds_decl, exports, adds_child, adds_member, maps, re_exports_all}
-use Rattle.symbols_table.specs.Changes.{parents_after, mapped_symbol_after, exported_symbol, child_named, member_named, has_function_decl}
+use Rattle.symbols_table.specs.Changes.{Change, ExportStarStatement, adds_symbol, adds_decl, exports, adds_child, adds_member, maps, re_exports_all}
+use Rattle.symbols_table.specs.Changes.{parents_after, symbol_of_ident_after_changes, exported_symbol, first_child_named, first_member_named, has_function_decl}
 
 -- A declaration step of the table's builder, like 'declare this identifier' or 'export that symbol'. Numbers are positions of earlier
 -- events, by which an event refers to their symbols: first its holder's, then, for `binds`, `export` and `child`, the symbol's own.
@@ -21,7 +21,7 @@ pub data DeclarationEvent : Type 0 where
   expando : IdView → Declaration → DeclarationEvent
   export : ℕ → List ℕ → ℕ → DeclarationEvent
   child : ℕ → ℕ → DeclarationEvent
-  star : Star → DeclarationEvent
+  star : ExportStarStatement → DeclarationEvent
 
 -- The effect of an event: the symbol that it yields, if any, and the changes to the table.
 pub record EventEffect : Type 0 where
@@ -44,27 +44,27 @@ next_symbol_id before = record { 0 = length (parents_after before) }
 
 -- The effect that adds a new symbol with its first declaration, and further changes.
 abbrev pub new_symbol_effect : List Change → Option SymbolId → Declaration → (SymbolId → List Change) → EventEffect
-new_symbol_effect before parent decl more = effect_yielding_symbol (next_symbol_id before) (makes_symbol parent ∷ adds_decl (next_symbol_id before) decl
+new_symbol_effect before parent decl more = effect_yielding_symbol (next_symbol_id before) (adds_symbol parent ∷ adds_decl (next_symbol_id before) decl
     ∷ more (next_symbol_id before))
 
 -- A found symbol gets the declaration; otherwise the given row applies.
-abbrev pub redeclare_effect_or : Option SymbolId → Declaration → EventEffect → EventEffect
-redeclare_effect_or None decl row = row
-redeclare_effect_or (Some s) decl row = effect_yielding_symbol s (adds_decl s decl ∷ [])
+abbrev pub effect_of_redeclaring_or : Option SymbolId → Declaration → EventEffect → EventEffect
+effect_of_redeclaring_or None decl row = row
+effect_of_redeclaring_or (Some s) decl row = effect_yielding_symbol s (adds_decl s decl ∷ [])
 
 -- Declaring an identifier: a bound one gives its symbol another declaration, an unbound one is bound to a new symbol of the holder.
 abbrev pub declare_effect : List Change → SymbolId → IdView → Declaration → EventEffect
 declare_effect before holder id decl =
-    redeclare_effect_or (mapped_symbol_after before id) decl (new_symbol_effect before (Some holder) decl (λ s. maps id s ∷ []))
+    effect_of_redeclaring_or (symbol_of_ident_after_changes before id) decl (new_symbol_effect before (Some holder) decl (λ s. maps id s ∷ []))
 
 -- For `import a = ..`: a bound identifier keeps its symbol, which gets no further declaration.
-abbrev pub existing_symbol_effect_or : Option SymbolId → EventEffect → EventEffect
-existing_symbol_effect_or None row = row
-existing_symbol_effect_or (Some s) row = effect_yielding_symbol s []
+abbrev pub effect_of_existing_symbol_or : Option SymbolId → EventEffect → EventEffect
+effect_of_existing_symbol_or None row = row
+effect_of_existing_symbol_or (Some s) row = effect_yielding_symbol s []
 
 abbrev pub declare_alias_effect : List Change → SymbolId → IdView → Declaration → EventEffect
 declare_alias_effect before holder id decl =
-    existing_symbol_effect_or (mapped_symbol_after before id) (new_symbol_effect before (Some holder) decl (λ s. maps id s ∷ []))
+    effect_of_existing_symbol_or (symbol_of_ident_after_changes before id) (new_symbol_effect before (Some holder) decl (λ s. maps id s ∷ []))
 
 -- The exported name of a default export.
 abbrev pub default_export_name : List ℕ
@@ -73,7 +73,7 @@ default_export_name = codes "default"
 -- A default export: the holder's export `default` gets the declaration, else a new symbol, which is a child only if it is a definition.
 abbrev pub default_export_effect : List Change → SymbolId → Declaration → EventEffect
 default_export_effect before holder decl =
-    redeclare_effect_or (exported_symbol before holder default_export_name) decl
+    effect_of_redeclaring_or (exported_symbol before holder default_export_name) decl
     (new_symbol_effect before (Some holder) decl (λ s. exports holder default_export_name s
     ∷ (if is_definition decl.kind then adds_child holder s ∷ [] else [])))
 
@@ -81,8 +81,8 @@ default_export_effect before holder decl =
 -- For an instance member it is the first member of that local name. A member without a name has none.
 abbrev pub find_member_symbol : List Change → SymbolId → Bool → Option (List ℕ) → Option SymbolId
 find_member_symbol before holder is_static None = None
-find_member_symbol before holder true (Some name) = option_or (exported_symbol before holder name) (child_named before holder name)
-find_member_symbol before holder false (Some name) = member_named before holder name
+find_member_symbol before holder true (Some name) = option_or (exported_symbol before holder name) (first_child_named before holder name)
+find_member_symbol before holder false (Some name) = first_member_named before holder name
 
 -- The changes that add a new member to its holder: a static one is an export by its name and a child, an instance one a member.
 abbrev pub new_member_changes : SymbolId → Bool → Option (List ℕ) → SymbolId → List Change
@@ -92,7 +92,7 @@ new_member_changes holder false name s = adds_member holder s ∷ []
 
 abbrev pub named_member_effect : List Change → SymbolId → Declaration → Bool → Option (List ℕ) → EventEffect
 named_member_effect before holder decl is_static name =
-    redeclare_effect_or (find_member_symbol before holder is_static name) decl
+    effect_of_redeclaring_or (find_member_symbol before holder is_static name) decl
     (new_symbol_effect before (Some holder) decl (new_member_changes holder is_static name))
 
 abbrev pub member_effect : List Change → SymbolId → Declaration → Bool → EventEffect
@@ -118,7 +118,7 @@ effect_of_event before at (declare_unnamed holder decl) = effect_if_symbol (at h
 effect_of_event before at (default holder decl) = effect_if_symbol (at holder) (λ h. default_export_effect before h decl)
 effect_of_event before at (binds id of) = effect_if_symbol (at of) (λ s. effect_yielding_symbol s (maps id s ∷ []))
 effect_of_event before at (member holder decl is_static) = effect_if_symbol (at holder) (λ h. member_effect before h decl is_static)
-effect_of_event before at (expando id decl) = expando_effect before (mapped_symbol_after before id) decl
+effect_of_event before at (expando id decl) = expando_effect before (symbol_of_ident_after_changes before id) decl
 effect_of_event before at (export holder name of) =
     effect_if_symbol (at holder) (λ h. effect_if_symbol (at of) (λ s. effect_of_changes (exports h name s ∷ [])))
 effect_of_event before at (child holder of) = effect_if_symbol (at holder) (λ h. effect_if_symbol (at of) (λ s. effect_of_changes (adds_child h s ∷ [])))

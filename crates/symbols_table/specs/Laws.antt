@@ -14,7 +14,7 @@ use Rattle.symbols_ast.specs.NodeRefs.{TreeNode}
 use Rattle.symbols_ast.specs.Nodes.{kind_at}
 use Rattle.symbols_nodes.specs.NodeViews.{decl_nodes}
 use Rattle.symbols_table.specs.declared.decl.symbol.Symbol.{Symbol}
-use Rattle.symbols_table.specs.Changes.{Star, names_of_export_entries}
+use Rattle.symbols_table.specs.Changes.{ExportStarStatement, exported_names_of_entries}
 use Rattle.symbols_table.specs.DeclViews.{Declaration, decl_kind_node}
 use Rattle.symbols_table.specs.Symbols.{symbol_module_id, symbol_local_id, symbol_parent, symbol_decls, symbol_export_entries, symbol_children, symbol_members}
 
@@ -32,7 +32,7 @@ pub record IsLawfulSymbol (module_id : ModuleId) (count : ℕ) (s : SymbolId) (s
   pub exports : All (λ entry. entry.1.0 < count) (symbol_export_entries symbol)
   pub children : All (λ child. child.0 < count) (symbol_children symbol)
   pub members : All (λ member. member.0 < count) (symbol_members symbol)
-  pub once : IsDistinct bytes_eq (names_of_export_entries (symbol_export_entries symbol))
+  pub has_no_duplicates : IsDistinct bytes_eq (exported_names_of_entries (symbol_export_entries symbol))
 
 abbrev pub AreLawfulSymbols : ModuleId → List Symbol → Type 0
 AreLawfulSymbols module_id symbols = (s : SymbolId) (symbol : Symbol) → slice_get symbols s.0 ≡ Some symbol → IsLawfulSymbol module_id (length symbols) s symbol
@@ -43,12 +43,12 @@ count_of_declarations symbols = sum_by (λ (symbol : Symbol). length (symbol_dec
 
 -- The tree has at least as many nodes as there are symbols, and as there are declarations.
 pub record AreBoundedByNodes (tree : Tree) (symbols : List Symbol) : Type 0 where
-  pub few_symbols : length symbols ≤ length tree.nodes.items
-  pub few_declarations : count_of_declarations symbols ≤ length tree.nodes.items
+  pub has_at_most_as_many_symbols : length symbols ≤ length tree.nodes.items
+  pub has_at_most_as_many_declarations : count_of_declarations symbols ≤ length tree.nodes.items
 
 -- Each bound identifier is bound to one of the module's symbols.
-abbrev pub AreMappedToSymbols : ℕ → List (IdView × SymbolId) → Type 0
-AreMappedToSymbols count names = (id : IdView) (s : SymbolId) → lookup (is_same_id id) names ≡ Some s → s.0 < count
+abbrev pub AreIdentsBoundToSymbols : ℕ → List (IdView × SymbolId) → Type 0
+AreIdentsBoundToSymbols count names = (id : IdView) (s : SymbolId) → lookup (is_same_id id) names ≡ Some s → s.0 < count
 
 -- The node is one of the tree's.
 abbrev pub IsTreeNode : Tree → TreeNode → Type 0
@@ -67,5 +67,5 @@ export_star_specifier (Kind.Item (Item.ExportAll src)) = Some (string_bytes src)
 export_star_specifier _ = None
 
 -- The statement is an `export *` node of the tree, with its specifier.
-abbrev pub IsExportStarInTree : Tree → Star → Type 0
+abbrev pub IsExportStarInTree : Tree → ExportStarStatement → Type 0
 IsExportStarInTree tree star = option_and_then export_star_specifier (kind_at tree.nodes.items star.number) ≡ Some star.specifier_text

@@ -1,7 +1,7 @@
 pub mod DeclViews
 pub mod Changes
 pub mod Events
-pub mod EventsByPosition
+pub mod EventsByHolderAndStart
 pub mod Patterns
 pub mod MemberEvents
 pub mod DeclarationEvents

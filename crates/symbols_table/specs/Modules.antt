@@ -12,7 +12,7 @@ use Rattle.symbols_table.specs.declared.info.es_module.EsModuleInfo.{EsModuleInf
 use Rattle.symbols_table.specs.declared.info.json_module.JsonModuleInfo.{JsonModuleInfo}
 use Rattle.symbols_table.specs.declared.info.module_info.ModuleInfo.{ModuleInfo}
 use Rattle.symbols_table.specs.declared.info.module_info.ModuleInfoRef.{ModuleInfoRef}
-use Rattle.symbols_table.specs.Changes.{Star}
+use Rattle.symbols_table.specs.Changes.{ExportStarStatement}
 use Rattle.symbols_table.specs.ModuleViews.{identifier_bindings_view, export_star_view}
 use Rattle.symbols_table.specs.SymbolViews.{SymbolView, symbol_view_of_number}
 
@@ -42,7 +42,7 @@ pub record SymbolTable : Type 0 where
   pub source : AnalyzableSource
   pub symbols : List Symbol
   pub names : List (IdView × SymbolId)
-  pub stars : List Star
+  pub stars : List ExportStarStatement
 
 abbrev pub esm_symbol_table : EsModuleInfo → SymbolTable
 esm_symbol_table info = record {
@@ -73,12 +73,12 @@ symbol_table_of_ref (ModuleInfoRef.Json info) = json_symbol_table info.now
 symbol_table_of_ref (ModuleInfoRef.Esm info) = esm_symbol_table info.now
 
 -- The symbol of a number, if the module has one.
-abbrev pub symbol_in : SymbolTable → SymbolId → Option SymbolView
-symbol_in table s = symbol_view_of_number table.symbols s
+abbrev pub symbol_in_table : SymbolTable → SymbolId → Option SymbolView
+symbol_in_table table s = symbol_view_of_number table.symbols s
 
 -- The symbol that an identifier is bound to, if any.
-abbrev pub mapped_symbol_in : SymbolTable → IdView → Option SymbolId
-mapped_symbol_in table id = lookup (is_same_id id) table.names
+abbrev pub symbol_of_ident_in_table : SymbolTable → IdView → Option SymbolId
+symbol_of_ident_in_table table id = lookup (is_same_id id) table.names
 
 -- The module as one of its kind, if it is of that kind.
 abbrev pub maybe_esm_info : ModuleInfo → Option EsModuleInfo

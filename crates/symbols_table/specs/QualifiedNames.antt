@@ -28,23 +28,23 @@ escaped_text text = encode_utf8_all (flat_map escaped_char (chars text))
 
 -- What follows a symbol's name in the name of a symbol inside it: `.text`, for a member `["text"]`, for a member of a class
 -- `.prototype.text`.
-abbrev pub nested_symbol_suffix : SymbolView → SymbolId → List ℕ → List ℕ
-nested_symbol_suffix symbol inner text =
+abbrev pub nested_name_suffix : SymbolView → SymbolId → List ℕ → List ℕ
+nested_name_suffix symbol inner text =
     if not (has_member_symbol symbol inner) then codes "." ++ text else
     if first_decl_node_satisfies is_class symbol then codes ".prototype." ++ text else
     codes "[\"" ++ (escaped_text text ++ codes "\"]")
 
 -- The name of a symbol followed by the inner name, or alone if the inner name is empty.
-abbrev pub name_with_nested_symbol_suffix : SymbolView → SymbolId → List ℕ → List ℕ → List ℕ
-name_with_nested_symbol_suffix symbol inner [] name = name
-name_with_nested_symbol_suffix symbol inner (b ∷ text) name = name ++ nested_symbol_suffix symbol inner (b ∷ text)
+abbrev pub name_with_nested_suffix : SymbolView → SymbolId → List ℕ → List ℕ → List ℕ
+name_with_nested_suffix symbol inner [] name = name
+name_with_nested_suffix symbol inner (b ∷ text) name = name ++ nested_name_suffix symbol inner (b ∷ text)
 
 -- The name along a path of symbols, each in the one before; `None` if a symbol on it has no name.
 abbrev pub symbol_path_name : List SymbolView → Option (List ℕ)
 symbol_path_name [] = None
 symbol_path_name (symbol ∷ []) = symbol_name symbol
 symbol_path_name (symbol ∷ inner ∷ path) =
-    option_and_then (λ (text : List ℕ). option_map (name_with_nested_symbol_suffix symbol inner.number text) (symbol_name symbol))
+    option_and_then (λ (text : List ℕ). option_map (name_with_nested_suffix symbol inner.number text) (symbol_name symbol))
     (symbol_path_name (inner ∷ path))
 
 -- The path from below the module to a symbol, of a bounded number of symbols.
@@ -58,8 +58,8 @@ symbol_path_within symbols (suc n) s = option_map_or (λ (symbol : SymbolView). 
     (symbols s) []
 
 -- The whole path. Parents have lower numbers, so no path has more symbols than the symbol's number.
-abbrev pub symbol_path : SymbolById → SymbolId → List SymbolView
-symbol_path symbols s = symbol_path_within symbols (suc s.0) s
+abbrev pub symbol_path_from_module : SymbolById → SymbolId → List SymbolView
+symbol_path_from_module symbols s = symbol_path_within symbols (suc s.0) s
 
 -- The text, unless it is empty.
 abbrev pub text_unless_empty : List ℕ → Option (List ℕ)
@@ -68,7 +68,7 @@ text_unless_empty (b ∷ text) = Some (b ∷ text)
 
 -- The fully qualified name; `None` for the module, and where the name is empty.
 abbrev pub qualified_name : SymbolById → SymbolId → Option (List ℕ)
-qualified_name symbols s = option_and_then text_unless_empty (symbol_path_name (symbol_path symbols s))
+qualified_name symbols s = option_and_then text_unless_empty (symbol_path_name (symbol_path_from_module symbols s))
 
 -- The faults: the module has no such symbol; or it has one and an allocation failed.
 abbrev pub IsQualifiedNameFault : Option SymbolView → SymbolsFault → Type 0

@@ -13,9 +13,10 @@ use Rattle.symbols_nodes.specs.NodeViews.{program, ts_namespace, exported_ts_mod
 use Rattle.symbols_table.specs.declared.builder.scope.Scope.{Scope}
 use Rattle.symbols_table.specs.DeclViews.{Declaration, definition_of_node}
 use Rattle.symbols_table.specs.Events.{DeclarationEvent, begins, declare, export, child}
-use Rattle.symbols_table.specs.EventsByPosition.{EventsByPosition, no_events_by_position, events_if_some, events_followed_by, events_of_each, range_or_empty}
-use Rattle.symbols_table.specs.EventsByPosition.{child_ident_id}
-use Rattle.symbols_table.specs.DeclarationEvents.{maybe_exported_node, statement_range, is_exported, declare_and_add_events, declaration_events}
+use Rattle.symbols_table.specs.EventsByHolderAndStart.{EventsByHolderAndStart, no_events_by_holder_and_start, events_if_some, events_followed_by}
+use Rattle.symbols_table.specs.EventsByHolderAndStart.{events_of_each, range_or_empty}
+use Rattle.symbols_table.specs.EventsByHolderAndStart.{id_of_ident_child}
+use Rattle.symbols_table.specs.DeclarationEvents.{maybe_exported_node, export_or_decl_range, is_exported, declare_and_add_events, declaration_events}
 use Rattle.symbols_table.specs.ModuleEvents.{import_export_or_expando_events}
 
 -- A namespace declaration, and the `export` before it, if any.
@@ -45,65 +46,65 @@ namespace_scope ambient = record { ambient = ambient; is_module = false }
 
 -- The events of a list of items, as a function of their scope.
 abbrev pub ItemListEvents : Type 0
-ItemListEvents = Scope → List ℕ → EventsByPosition
+ItemListEvents = Scope → List ℕ → EventsByHolderAndStart
 
 -- A later part of a dotted name is declared in the part before it, with the whole namespace as its node, and becomes its export and its
 -- child.
-abbrev pub declare_name_part_events : TreeNode → TreeNode → Id → EventsByPosition
-declare_name_part_events whole node id holder start = declare holder (id_view id) (definition_of_node (ts_namespace whole) (range_or_empty node))
+abbrev pub namespace_part_decl_events : TreeNode → TreeNode → Id → EventsByHolderAndStart
+namespace_part_decl_events whole node id holder start = declare holder (id_view id) (definition_of_node (ts_namespace whole) (range_or_empty node))
     ∷ export holder (id_view id).name start
     ∷ child holder start ∷ []
 
 -- The events of a later part, followed by those of the declarations in it.
-abbrev pub namespace_name_part_events : TreeNode → TreeNode → EventsByPosition → Id → EventsByPosition
-namespace_name_part_events whole node inner id holder start = events_followed_by (declare_name_part_events whole node id holder start) (inner start) start
+abbrev pub namespace_name_part_events : TreeNode → TreeNode → EventsByHolderAndStart → Id → EventsByHolderAndStart
+namespace_name_part_events whole node inner id holder start = events_followed_by (namespace_part_decl_events whole node id holder start) (inner start) start
 
-abbrev pub namespace_body_events_of_kind : (ℕ → EventsByPosition) → ItemListEvents → TreeNode → Bool → TreeNode → Kind → EventsByPosition
+abbrev pub namespace_body_events_of_kind : (ℕ → EventsByHolderAndStart) → ItemListEvents → TreeNode → Bool → TreeNode → Kind → EventsByHolderAndStart
 namespace_body_events_of_kind inner block whole ambient node (Kind.Decl (Decl.TsModuleBlock items)) = block (namespace_scope ambient) items.items
 namespace_body_events_of_kind inner block whole ambient node (Kind.Decl (Decl.TsNamespaceDecl _ body)) =
-    events_if_some (child_ident_id id_of node) (namespace_name_part_events whole node (inner body))
-namespace_body_events_of_kind inner block whole ambient node _ = no_events_by_position
+    events_if_some (id_of_ident_child id_of node) (namespace_name_part_events whole node (inner body))
+namespace_body_events_of_kind inner block whole ambient node _ = no_events_by_holder_and_start
 
 -- The events of a namespace's body: the later parts of its dotted name, and the items in the last part.
-unfoldable pub namespace_body_events_within : ItemListEvents → TreeNode → Bool → ℕ → ℕ → EventsByPosition
-namespace_body_events_within block whole ambient zero n = no_events_by_position
+unfoldable pub namespace_body_events_within : ItemListEvents → TreeNode → Bool → ℕ → ℕ → EventsByHolderAndStart
+namespace_body_events_within block whole ambient zero n = no_events_by_holder_and_start
 namespace_body_events_within block whole ambient (suc levels) n = events_if_some (node_in whole.tree (Some n))
     (λ (node : TreeNode). events_if_some (kind_of node)
     (namespace_body_events_of_kind (namespace_body_events_within block whole ambient levels) block whole ambient node))
 
-abbrev pub namespace_body_events : ItemListEvents → TreeNode → Bool → TreeNode → EventsByPosition
+abbrev pub namespace_body_events : ItemListEvents → TreeNode → Bool → TreeNode → EventsByHolderAndStart
 namespace_body_events block whole ambient body = namespace_body_events_within block whole ambient (length whole.tree.nodes.items) body.number
 
 -- A namespace with an identifier is declared, with the events of its body. A namespace whose name is a string is skipped.
-abbrev pub namespace_events : ItemListEvents → Scope → Namespace → Kind → EventsByPosition
+abbrev pub namespace_events : ItemListEvents → Scope → Namespace → Kind → EventsByHolderAndStart
 namespace_events block scope namespace kind =
-    events_if_some (child_ident_id id_of namespace.decl)
+    events_if_some (id_of_ident_child id_of namespace.decl)
     (λ (id : Id). declare_and_add_events (is_exported scope namespace.exported) (id_view id)
-    (definition_of_node (maybe_exported_node namespace.exported (exported_ts_module namespace.decl)) (statement_range namespace.exported namespace.decl))
+    (definition_of_node (maybe_exported_node namespace.exported (exported_ts_module namespace.decl)) (export_or_decl_range namespace.exported namespace.decl))
     (events_if_some (child_in_field namespace.decl body_node_of) (namespace_body_events block namespace.decl (scope.ambient || is_ambient_namespace kind))))
 
 -- The events of a declaration after `export`, and of any other item that is no namespace.
-abbrev pub export_decl_events : Scope → TreeNode → TreeNode → EventsByPosition
+abbrev pub export_decl_events : Scope → TreeNode → TreeNode → EventsByHolderAndStart
 export_decl_events scope node decl = events_if_some (kind_of decl) (declaration_events scope (Some node) decl)
 
-abbrev pub non_namespace_item_events : Scope → TreeNode → Kind → EventsByPosition
+abbrev pub non_namespace_item_events : Scope → TreeNode → Kind → EventsByHolderAndStart
 non_namespace_item_events scope node (Kind.Item (Item.ExportDecl _)) = events_if_some (child_in_field node decl_of) (export_decl_events scope node)
 non_namespace_item_events scope node (Kind.Item item) = import_export_or_expando_events node (Kind.Item item)
 non_namespace_item_events scope node kind = declaration_events scope None node kind
 
-abbrev pub namespace_events_or : Option Namespace → (Namespace → EventsByPosition) → EventsByPosition → EventsByPosition
+abbrev pub namespace_events_or : Option Namespace → (Namespace → EventsByHolderAndStart) → EventsByHolderAndStart → EventsByHolderAndStart
 namespace_events_or None namespace other = other
 namespace_events_or (Some found) namespace other = namespace found
 
 -- The events of an item: a namespace, or any other item.
-abbrev pub item_events : ItemListEvents → Scope → TreeNode → Kind → EventsByPosition
+abbrev pub item_events : ItemListEvents → Scope → TreeNode → Kind → EventsByHolderAndStart
 item_events block scope node kind =
     namespace_events_or (namespace_of node kind) (λ (namespace : Namespace). events_if_some (kind_of namespace.decl) (namespace_events block scope namespace))
     (non_namespace_item_events scope node kind)
 
 -- The events of item n, down to a number of levels.
-unfoldable pub item_events_within : Tree → ℕ → Scope → ℕ → EventsByPosition
-item_events_within tree zero scope n = no_events_by_position
+unfoldable pub item_events_within : Tree → ℕ → Scope → ℕ → EventsByHolderAndStart
+item_events_within tree zero scope n = no_events_by_holder_and_start
 item_events_within tree (suc levels) scope n =
     events_if_some (node_in tree (Some n))
     (λ (node : TreeNode). events_if_some (kind_of node) (item_events (λ (inner : Scope). events_of_each (item_events_within tree levels inner)) scope node))
@@ -113,7 +114,7 @@ abbrev pub item_list_events_within : Tree → ℕ → ItemListEvents
 item_list_events_within tree levels scope = events_of_each (item_events_within tree levels scope)
 
 -- The events of a list of items. No namespace is nested deeper than the number of nodes.
-abbrev pub item_list_events : Tree → Scope → List ℕ → EventsByPosition
+abbrev pub item_list_events : Tree → Scope → List ℕ → EventsByHolderAndStart
 item_list_events tree = item_list_events_within tree (length tree.nodes.items)
 
 abbrev pub program_node : Tree → TreeNode

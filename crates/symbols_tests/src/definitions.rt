@@ -187,6 +187,45 @@ fn returns_a_path_by_its_parts(rt: HostRuntime) -> Checked {
     of_root(rt.alloc(), TWO_EXPORTERS, resolves_and_ends)
 }
 
+/// `q` imports n from a. a declares n at byte 0, and again at byte 1.
+const DECLARED_TWICE: &str = r#"{"modules": [
+{"specifier": "q", "kind": "esm", "text": "", "tree": {"nodes": [
+    {"kind": "Program", "range": [0, 0], "body": [1]},
+    {"kind": "Import", "range": [0, 0], "specifiers": [2], "src": "a"},
+    {"kind": "ImportNamed", "range": [0, 0], "local": 3},
+    {"kind": "Ident", "range": [0, 0], "sym": ["n", 1]}
+]}},
+{"specifier": "a", "kind": "esm", "text": "  ", "tree": {"nodes": [
+    {"kind": "Program", "range": [0, 2], "body": [1]},
+    {"kind": "ExportDecl", "range": [0, 2], "decl": 2},
+    {"kind": "VarDecl", "range": [0, 2], "decls": [3, 5]},
+    {"kind": "VarDeclarator", "range": [0, 1], "name": 4},
+    {"kind": "BindingIdent", "range": [0, 1], "sym": ["n", 1]},
+    {"kind": "VarDeclarator", "range": [1, 2], "name": 6},
+    {"kind": "BindingIdent", "range": [1, 2], "sym": ["n", 1]}
+]}}
+],
+"resolutions": [["q", "a", "a"]]}"#;
+
+/// Checks that a path of the first symbol of q ends in two definitions, at byte 0 and at byte 1.
+fn ends_at_each_byte(root: &mut RootSymbol<'_>) -> Checked {
+    let q = there!(module_id_of(root, "q"), "the module q");
+    let path = there!(last_path(root, q), "a path");
+    let Ok(mut definitions) = path.into_definitions(root.alloc()) else {
+        return Err("no memory");
+    };
+    let left = there!(definitions.next(), "an end on the left");
+    let right = there!(definitions.next(), "an end on the right");
+    holds!(left.range().start == 0, "where the left end starts");
+    holds!(right.range().start == 1, "where the right end starts");
+    Ok(())
+}
+
+#[test]
+fn returns_ends_from_left_to_right(rt: HostRuntime) -> Checked {
+    of_root(rt.alloc(), DECLARED_TWICE, ends_at_each_byte)
+}
+
 /// The nodes of a module that re-exports `n` from the specifier `next`.
 const PASSES_ON_N: &str = r#"
     {"kind": "Program", "range": [0, 0], "body": [1]},

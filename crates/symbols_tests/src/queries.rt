@@ -6,8 +6,8 @@ use deno_symbols::deps::{ResolveDepsMode, SymbolNodeDep};
 use deno_symbols::ids::SymbolId;
 use deno_symbols::info::SymbolsFault;
 use deno_symbols::queries::{
-    Answer, AnswerQueries, DepEntryBySpecifier, ExportsBySpecifier, PathBySpecifier,
-    PathEndBySpecifier, Query,
+    Answer, AnswerQueries, DepEntryBySpecifier, ExportsBySpecifier, Found, PathBySpecifier,
+    PathEndBySpecifier, Query, QueryInput,
 };
 use deno_symbols::root::{Limits, RootSymbol};
 use std::alloc::{AllocError, Global};
@@ -37,7 +37,7 @@ fn first() -> SymbolId {
 }
 
 /// The form of each query, and its module.
-const FORMS: [(&str, &str); 11] = [
+const FORMS: [(&str, &str); 12] = [
     ("a module", "b"),
     ("exports", "a"),
     ("a symbol", "b"),
@@ -49,6 +49,7 @@ const FORMS: [(&str, &str); 11] = [
     ("a reference", "a"),
     ("public names", "a"),
     ("no module", "absent"),
+    ("inputs", "a"),
 ];
 
 /// Returns the reference `import("b").n`.
@@ -74,11 +75,12 @@ fn query(
         7 => Query::Leaves(specifier, first()),
         8 => Query::Resolve(specifier, reference(alloc)?),
         9 => Query::Names(specifier),
+        11 => Query::Exports(specifier).inputs(),
         _ => Query::Module(specifier),
     })
 }
 
-/// Returns a query of each form, the last on a specifier that resolves to no module.
+/// Returns a query of each form, and one on a specifier that resolves to no module.
 fn queries(alloc: Global) -> Result<Vec<Query<'static>>, AllocError> {
     let mut queries = Vec::new(alloc);
     for (index, (_, specifier)) in FORMS.iter().enumerate() {
@@ -101,6 +103,7 @@ fn index_of(answer: &Answer<'_>) -> usize {
         Answer::Resolve(_) => 8,
         Answer::Names(_) => 9,
         Answer::NoModule => 10,
+        Answer::Inputs(_) => 11,
     }
 }
 
@@ -118,6 +121,11 @@ fn exports_n(named: &ExportsBySpecifier<'_>) -> bool {
         && export.symbol == first()
         && statement.referrer == "a"
         && statement.specifier == "b"
+}
+
+/// Returns whether an input is a module of this specifier.
+fn is_module(input: &QueryInput<'_>, specifier: &str) -> bool {
+    input.specifier.as_str() == specifier && matches!(input.found, Found::Module)
 }
 
 /// Returns whether an answer has the expected contents for `n` and its module.
@@ -151,6 +159,10 @@ fn returns_of_n(answer: &Answer<'_>) -> bool {
             _ => false,
         },
         Answer::NoModule => true,
+        Answer::Inputs(inputs) => match inputs.as_slice() {
+            [a, b] => is_module(a, "a") && is_module(b, "b"),
+            _ => false,
+        },
     }
 }
 

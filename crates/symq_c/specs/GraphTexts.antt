@@ -6,11 +6,11 @@ use Rattle.symbols_ast.specs.declared.graph.faults.GraphFault.TheVariants as gra
 use Rattle.symbols_ast.specs.Graph.{GraphView, graph_view, resolved_dependency}
 use Rattle.symbols_graph.specs.GraphFaults.{IsFaultlessGraph, IsFirstGraphFault}
 use Rattle.symq_reader.specs.declared.faults.FormatFault.{FormatFault}
-use Rattle.symq_reader.specs.GraphText.{graph_shape, read_outcome_of_bytes}
+use Rattle.symq_reader.specs.GraphText.{raw_graph_view, read_outcome_of_bytes}
 
 -- raw is the graph that the text describes, before its check
-abbrev pub IsRawGraphOf : List ℕ → RawGraph → Type 0
-IsRawGraphOf text raw = read_outcome_of_bytes text ≡ Ok (graph_shape raw)
+abbrev pub IsRawGraphOfText : List ℕ → RawGraph → Type 0
+IsRawGraphOfText text raw = read_outcome_of_bytes text ≡ Ok (raw_graph_view raw)
 
 -- both have the same modules and redirects, and resolve each specifier alike
 abbrev pub IsSameGraph : GraphView → GraphView → Type 0
@@ -18,13 +18,13 @@ IsSameGraph raw graph = (graph.modules ≡ raw.modules) × (graph.redirects ≡ 
     × ((referrer text : List ℕ) → resolved_dependency graph referrer text ≡ resolved_dependency raw referrer text)
 
 -- the text describes this graph, which has no faults
-abbrev pub IsCheckedGraphOf : List ℕ → GraphView → Type 0
-IsCheckedGraphOf text graph = (raw : RawGraph) × IsRawGraphOf text raw × IsFaultlessGraph (graph_view raw) × IsSameGraph (graph_view raw) graph
+abbrev pub IsCheckedGraphOfText : List ℕ → GraphView → Type 0
+IsCheckedGraphOfText text graph = (raw : RawGraph) × IsRawGraphOfText text raw × IsFaultlessGraph (graph_view raw) × IsSameGraph (graph_view raw) graph
 
 -- the text is no graph, for this reason
-abbrev pub IsFormatFaultOf : List ℕ → FormatFault → Type 0
-IsFormatFaultOf text fault = read_outcome_of_bytes text ≡ Err fault
+abbrev pub IsFormatFaultOfText : List ℕ → FormatFault → Type 0
+IsFormatFaultOfText text fault = read_outcome_of_bytes text ≡ Err fault
 
 -- the graph that the text describes has this fault first
-abbrev pub IsGraphFaultOf : List ℕ → GraphFault → Type 0
-IsGraphFaultOf text fault = (raw : RawGraph) × IsRawGraphOf text raw × IsFirstGraphFault (graph_view raw) fault
+abbrev pub IsFirstGraphFaultOfText : List ℕ → GraphFault → Type 0
+IsFirstGraphFaultOfText text fault = (raw : RawGraph) × IsRawGraphOfText text raw × IsFirstGraphFault (graph_view raw) fault

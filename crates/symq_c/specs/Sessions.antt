@@ -2,11 +2,11 @@
 use Rattle.std.specs.Prelude.{◌≡◌, ℕ, List, codes}
 use Rattle.symbols_root.specs.declared.rules.Rules.{Rules}
 use Rattle.symq_c.specs.declared.session_state.SessionState.{SessionState}
-use Rattle.symq_c.specs.GraphTexts.{IsCheckedGraphOf}
+use Rattle.symq_c.specs.GraphTexts.{IsCheckedGraphOfText}
 
 -- the state has the graph that the text describes, without faults, and these rules
-abbrev pub IsSessionStateOf : List ℕ → Rules → SessionState → Type 0
-IsSessionStateOf text rules state = IsCheckedGraphOf text state.graph × (state.rules ≡ rules)
+abbrev pub IsSessionStateOfText : List ℕ → Rules → SessionState → Type 0
+IsSessionStateOfText text rules state = IsCheckedGraphOfText text state.graph × (state.rules ≡ rules)
 
 abbrev pub closed_session_line : List ℕ
 closed_session_line = codes "symq: the session is closed"

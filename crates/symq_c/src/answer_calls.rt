@@ -9,7 +9,7 @@ ghost use Rattle.symq_core.specs.AnswerTexts.{answer_text};
 ghost use Rattle.symq_core.specs.Lines.{output_text_of};
 ghost use Rattle.symq_core.specs.ExitLines.{format_fault_line, graph_fault_line};
 ghost use Rattle.symq_core.specs.ExitLines.{out_of_memory_line};
-ghost use Rattle.symq_c.specs.GraphTexts.{IsCheckedGraphOf, IsFormatFaultOf, IsGraphFaultOf};
+ghost use Rattle.symq_c.specs.GraphTexts.{IsCheckedGraphOfText, IsFormatFaultOfText, IsFirstGraphFaultOfText};
 ghost use Rattle.symq_c.specs.OutBuffers.{IsTruncatedCopyToBuffer};
 
 use crate::graph_of_text::{answers, graph_of};
@@ -55,12 +55,12 @@ pub(crate) fn answer_by_rules(
     out: &mut [u8],
     needed: &mut usize,
 ) -> u8
-    ensures answered { result ≡ 0 → (graph : GraphView) × IsCheckedGraphOf text.now graph
+    ensures answered { result ≡ 0 → (graph : GraphView) × IsCheckedGraphOfText text.now graph
         × IsTruncatedCopyToBuffer (output_text_of (answer_text rules graph) lines.now) out.old
         out.new needed.new }
-    ensures no_graph { result ≡ 4 → (fault : FormatFault) × IsFormatFaultOf text.now fault
+    ensures no_graph { result ≡ 4 → (fault : FormatFault) × IsFormatFaultOfText text.now fault
         × IsTruncatedCopyToBuffer (format_fault_line fault) out.old out.new needed.new }
-    ensures refused { result ≡ 5 → (fault : GraphFault) × IsGraphFaultOf text.now fault
+    ensures refused { result ≡ 5 → (fault : GraphFault) × IsFirstGraphFaultOfText text.now fault
         × IsTruncatedCopyToBuffer (graph_fault_line fault) out.old out.new needed.new }
     ensures memory { result ≡ 7 → IsTruncatedCopyToBuffer out_of_memory_line out.old out.new needed.new }
     ensures no_other { (result ≡ 0) ⊎ (result ≡ 4) ⊎ (result ≡ 5) ⊎ (result ≡ 7) }
@@ -85,12 +85,12 @@ pub extern "C" fn symq_answer(
     out: &mut [u8],
     needed: &mut usize,
 ) -> u8
-    ensures answered { result ≡ 0 → (graph : GraphView) × IsCheckedGraphOf text.now graph
+    ensures answered { result ≡ 0 → (graph : GraphView) × IsCheckedGraphOfText text.now graph
         × IsTruncatedCopyToBuffer (output_text_of (answer_text rules.Deno graph) lines.now) out.old
         out.new needed.new }
-    ensures no_graph { result ≡ 4 → (fault : FormatFault) × IsFormatFaultOf text.now fault
+    ensures no_graph { result ≡ 4 → (fault : FormatFault) × IsFormatFaultOfText text.now fault
         × IsTruncatedCopyToBuffer (format_fault_line fault) out.old out.new needed.new }
-    ensures refused { result ≡ 5 → (fault : GraphFault) × IsGraphFaultOf text.now fault
+    ensures refused { result ≡ 5 → (fault : GraphFault) × IsFirstGraphFaultOfText text.now fault
         × IsTruncatedCopyToBuffer (graph_fault_line fault) out.old out.new needed.new }
     ensures memory { result ≡ 7 → IsTruncatedCopyToBuffer out_of_memory_line out.old out.new needed.new }
     ensures no_other { (result ≡ 0) ⊎ (result ≡ 4) ⊎ (result ≡ 5) ⊎ (result ≡ 7) }
@@ -108,12 +108,12 @@ pub extern "C" fn symq_strict_answer(
     out: &mut [u8],
     needed: &mut usize,
 ) -> u8
-    ensures answered { result ≡ 0 → (graph : GraphView) × IsCheckedGraphOf text.now graph
+    ensures answered { result ≡ 0 → (graph : GraphView) × IsCheckedGraphOfText text.now graph
         × IsTruncatedCopyToBuffer (output_text_of (answer_text rules.Strict graph) lines.now)
         out.old out.new needed.new }
-    ensures no_graph { result ≡ 4 → (fault : FormatFault) × IsFormatFaultOf text.now fault
+    ensures no_graph { result ≡ 4 → (fault : FormatFault) × IsFormatFaultOfText text.now fault
         × IsTruncatedCopyToBuffer (format_fault_line fault) out.old out.new needed.new }
-    ensures refused { result ≡ 5 → (fault : GraphFault) × IsGraphFaultOf text.now fault
+    ensures refused { result ≡ 5 → (fault : GraphFault) × IsFirstGraphFaultOfText text.now fault
         × IsTruncatedCopyToBuffer (graph_fault_line fault) out.old out.new needed.new }
     ensures memory { result ≡ 7 → IsTruncatedCopyToBuffer out_of_memory_line out.old out.new needed.new }
     ensures no_other { (result ≡ 0) ⊎ (result ≡ 4) ⊎ (result ≡ 5) ⊎ (result ≡ 7) }

@@ -4,7 +4,7 @@ ghost use Rattle.std.specs.Prelude.{◌≡◌, IfOk, IfErr};
 ghost use Rattle.symq_core.specs.AnswerTexts.{answer_text};
 ghost use Rattle.symq_core.specs.Lines.{output_text_of};
 ghost use Rattle.symq_core.specs.declared.fault.EngineFault.TheVariants.{OutOfMemory};
-ghost use Rattle.symq_c.specs.GraphTexts.{IsRawGraphOf, IsCheckedGraphOf};
+ghost use Rattle.symq_c.specs.GraphTexts.{IsRawGraphOfText, IsCheckedGraphOfText};
 ghost use Rattle.symq_c.specs.inner.GraphTexts.{IsGraphRefusal};
 
 use std::alloc::Global;
@@ -18,7 +18,7 @@ use symq_core::{
 /// allocation failed.
 #[tactic(auto, using(crate::proofs::Refusals::refused_format))]
 fn raw_graph_of(alloc: Global, text: &[u8]) -> Result<RawGraph, ExitError>
-    ensures read { IfOk result (λ raw. IsRawGraphOf text.now raw) }
+    ensures read { IfOk result (λ raw. IsRawGraphOfText text.now raw) }
     ensures refused { IfErr result (λ exit_error. IsGraphRefusal text.now exit_error) }
 {
     read_graph(alloc, text).map_err(ExitError::Format)
@@ -34,7 +34,7 @@ pub(crate) fn graph_of(
     key_bytes: KeyBytes,
     text: &[u8],
 ) -> Result<ModuleGraph, ExitError>
-    ensures accepted { IfOk result (λ graph. IsCheckedGraphOf text.now graph) }
+    ensures accepted { IfOk result (λ graph. IsCheckedGraphOfText text.now graph) }
     ensures refused { IfErr result (λ exit_error. IsGraphRefusal text.now exit_error) }
 {
     let raw = raw_graph_of(alloc, text)?;

@@ -9,9 +9,9 @@ ghost use Rattle.symq_core.specs.AnswerTexts.{answer_text};
 ghost use Rattle.symq_core.specs.Lines.{output_text_of};
 ghost use Rattle.symq_core.specs.ExitLines.{format_fault_line, graph_fault_line};
 ghost use Rattle.symq_core.specs.ExitLines.{out_of_memory_line};
-ghost use Rattle.symq_c.specs.GraphTexts.{IsCheckedGraphOf, IsFormatFaultOf, IsGraphFaultOf};
+ghost use Rattle.symq_c.specs.GraphTexts.{IsCheckedGraphOfText, IsFormatFaultOfText, IsFirstGraphFaultOfText};
 ghost use Rattle.symq_c.specs.OutBuffers.{IsTruncatedCopyToBuffer};
-ghost use Rattle.symq_c.specs.Sessions.{IsSessionStateOf};
+ghost use Rattle.symq_c.specs.Sessions.{IsSessionStateOfText};
 
 use crate::answer_calls::answer_by_rules;
 use crate::session::Session;
@@ -38,12 +38,12 @@ pub extern "C" fn symq_keyed_answer(
     out: &mut [u8],
     needed: &mut usize,
 ) -> u8
-    ensures answered { result ≡ 0 → (graph : GraphView) × IsCheckedGraphOf text.now graph
+    ensures answered { result ≡ 0 → (graph : GraphView) × IsCheckedGraphOfText text.now graph
         × IsTruncatedCopyToBuffer (output_text_of (answer_text rules.Deno graph) lines.now) out.old
         out.new needed.new }
-    ensures no_graph { result ≡ 4 → (fault : FormatFault) × IsFormatFaultOf text.now fault
+    ensures no_graph { result ≡ 4 → (fault : FormatFault) × IsFormatFaultOfText text.now fault
         × IsTruncatedCopyToBuffer (format_fault_line fault) out.old out.new needed.new }
-    ensures refused { result ≡ 5 → (fault : GraphFault) × IsGraphFaultOf text.now fault
+    ensures refused { result ≡ 5 → (fault : GraphFault) × IsFirstGraphFaultOfText text.now fault
         × IsTruncatedCopyToBuffer (graph_fault_line fault) out.old out.new needed.new }
     ensures memory { result ≡ 7 → IsTruncatedCopyToBuffer out_of_memory_line out.old out.new needed.new }
     ensures no_other { (result ≡ 0) ⊎ (result ≡ 4) ⊎ (result ≡ 5) ⊎ (result ≡ 7) }
@@ -63,12 +63,12 @@ pub extern "C" fn symq_strict_keyed_answer(
     out: &mut [u8],
     needed: &mut usize,
 ) -> u8
-    ensures answered { result ≡ 0 → (graph : GraphView) × IsCheckedGraphOf text.now graph
+    ensures answered { result ≡ 0 → (graph : GraphView) × IsCheckedGraphOfText text.now graph
         × IsTruncatedCopyToBuffer (output_text_of (answer_text rules.Strict graph) lines.now)
         out.old out.new needed.new }
-    ensures no_graph { result ≡ 4 → (fault : FormatFault) × IsFormatFaultOf text.now fault
+    ensures no_graph { result ≡ 4 → (fault : FormatFault) × IsFormatFaultOfText text.now fault
         × IsTruncatedCopyToBuffer (format_fault_line fault) out.old out.new needed.new }
-    ensures refused { result ≡ 5 → (fault : GraphFault) × IsGraphFaultOf text.now fault
+    ensures refused { result ≡ 5 → (fault : GraphFault) × IsFirstGraphFaultOfText text.now fault
         × IsTruncatedCopyToBuffer (graph_fault_line fault) out.old out.new needed.new }
     ensures memory { result ≡ 7 → IsTruncatedCopyToBuffer out_of_memory_line out.old out.new needed.new }
     ensures no_other { (result ≡ 0) ⊎ (result ≡ 4) ⊎ (result ≡ 5) ⊎ (result ≡ 7) }
@@ -89,11 +89,11 @@ pub extern "C" fn symq_keyed_open(
     out: &mut [u8],
     needed: &mut usize,
 ) -> u8
-    ensures opened { result ≡ 0 → IsSomeAnd session.new.session_handle.state (IsSessionStateOf text.now
+    ensures opened { result ≡ 0 → IsSomeAnd session.new.session_handle.state (IsSessionStateOfText text.now
         rules.Deno) × IsTruncatedCopyToBuffer [] out.old out.new needed.new }
-    ensures no_graph { result ≡ 4 → (fault : FormatFault) × IsFormatFaultOf text.now fault
+    ensures no_graph { result ≡ 4 → (fault : FormatFault) × IsFormatFaultOfText text.now fault
         × IsTruncatedCopyToBuffer (format_fault_line fault) out.old out.new needed.new }
-    ensures refused { result ≡ 5 → (fault : GraphFault) × IsGraphFaultOf text.now fault
+    ensures refused { result ≡ 5 → (fault : GraphFault) × IsFirstGraphFaultOfText text.now fault
         × IsTruncatedCopyToBuffer (graph_fault_line fault) out.old out.new needed.new }
     ensures memory { result ≡ 7 → IsTruncatedCopyToBuffer out_of_memory_line out.old out.new needed.new }
     ensures no_other { (result ≡ 0) ⊎ (result ≡ 4) ⊎ (result ≡ 5) ⊎ (result ≡ 7) }
@@ -114,11 +114,11 @@ pub extern "C" fn symq_strict_keyed_open(
     out: &mut [u8],
     needed: &mut usize,
 ) -> u8
-    ensures opened { result ≡ 0 → IsSomeAnd session.new.session_handle.state (IsSessionStateOf text.now
+    ensures opened { result ≡ 0 → IsSomeAnd session.new.session_handle.state (IsSessionStateOfText text.now
         rules.Strict) × IsTruncatedCopyToBuffer [] out.old out.new needed.new }
-    ensures no_graph { result ≡ 4 → (fault : FormatFault) × IsFormatFaultOf text.now fault
+    ensures no_graph { result ≡ 4 → (fault : FormatFault) × IsFormatFaultOfText text.now fault
         × IsTruncatedCopyToBuffer (format_fault_line fault) out.old out.new needed.new }
-    ensures refused { result ≡ 5 → (fault : GraphFault) × IsGraphFaultOf text.now fault
+    ensures refused { result ≡ 5 → (fault : GraphFault) × IsFirstGraphFaultOfText text.now fault
         × IsTruncatedCopyToBuffer (graph_fault_line fault) out.old out.new needed.new }
     ensures memory { result ≡ 7 → IsTruncatedCopyToBuffer out_of_memory_line out.old out.new needed.new }
     ensures no_other { (result ≡ 0) ⊎ (result ≡ 4) ⊎ (result ≡ 5) ⊎ (result ≡ 7) }

@@ -8,9 +8,9 @@ ghost use Rattle.symq_core.specs.AnswerTexts.{answer_text};
 ghost use Rattle.symq_core.specs.Lines.{output_text_of};
 ghost use Rattle.symq_core.specs.ExitLines.{format_fault_line, graph_fault_line};
 ghost use Rattle.symq_core.specs.ExitLines.{out_of_memory_line};
-ghost use Rattle.symq_c.specs.GraphTexts.{IsFormatFaultOf, IsGraphFaultOf};
+ghost use Rattle.symq_c.specs.GraphTexts.{IsFormatFaultOfText, IsFirstGraphFaultOfText};
 ghost use Rattle.symq_c.specs.OutBuffers.{IsTruncatedCopyToBuffer};
-ghost use Rattle.symq_c.specs.Sessions.{IsSessionStateOf, closed_session_line};
+ghost use Rattle.symq_c.specs.Sessions.{IsSessionStateOfText, closed_session_line};
 
 use crate::answer_calls::answer_over;
 use crate::out_buffer::{hand_out, hand_out_line};
@@ -31,11 +31,11 @@ pub(crate) fn open_by_rules(
     out: &mut [u8],
     needed: &mut usize,
 ) -> u8
-    ensures opened { result ≡ 0 → IsSomeAnd session.new.session_handle.state (IsSessionStateOf text.now
+    ensures opened { result ≡ 0 → IsSomeAnd session.new.session_handle.state (IsSessionStateOfText text.now
         rules) × IsTruncatedCopyToBuffer [] out.old out.new needed.new }
-    ensures no_graph { result ≡ 4 → (fault : FormatFault) × IsFormatFaultOf text.now fault
+    ensures no_graph { result ≡ 4 → (fault : FormatFault) × IsFormatFaultOfText text.now fault
         × IsTruncatedCopyToBuffer (format_fault_line fault) out.old out.new needed.new }
-    ensures refused { result ≡ 5 → (fault : GraphFault) × IsGraphFaultOf text.now fault
+    ensures refused { result ≡ 5 → (fault : GraphFault) × IsFirstGraphFaultOfText text.now fault
         × IsTruncatedCopyToBuffer (graph_fault_line fault) out.old out.new needed.new }
     ensures memory { result ≡ 7 → IsTruncatedCopyToBuffer out_of_memory_line out.old out.new needed.new }
     ensures no_other { (result ≡ 0) ⊎ (result ≡ 4) ⊎ (result ≡ 5) ⊎ (result ≡ 7) }
@@ -62,11 +62,11 @@ pub extern "C" fn symq_open(
     out: &mut [u8],
     needed: &mut usize,
 ) -> u8
-    ensures opened { result ≡ 0 → IsSomeAnd session.new.session_handle.state (IsSessionStateOf text.now
+    ensures opened { result ≡ 0 → IsSomeAnd session.new.session_handle.state (IsSessionStateOfText text.now
         rules.Deno) × IsTruncatedCopyToBuffer [] out.old out.new needed.new }
-    ensures no_graph { result ≡ 4 → (fault : FormatFault) × IsFormatFaultOf text.now fault
+    ensures no_graph { result ≡ 4 → (fault : FormatFault) × IsFormatFaultOfText text.now fault
         × IsTruncatedCopyToBuffer (format_fault_line fault) out.old out.new needed.new }
-    ensures refused { result ≡ 5 → (fault : GraphFault) × IsGraphFaultOf text.now fault
+    ensures refused { result ≡ 5 → (fault : GraphFault) × IsFirstGraphFaultOfText text.now fault
         × IsTruncatedCopyToBuffer (graph_fault_line fault) out.old out.new needed.new }
     ensures memory { result ≡ 7 → IsTruncatedCopyToBuffer out_of_memory_line out.old out.new needed.new }
     ensures no_other { (result ≡ 0) ⊎ (result ≡ 4) ⊎ (result ≡ 5) ⊎ (result ≡ 7) }
@@ -85,11 +85,11 @@ pub extern "C" fn symq_strict_open(
     out: &mut [u8],
     needed: &mut usize,
 ) -> u8
-    ensures opened { result ≡ 0 → IsSomeAnd session.new.session_handle.state (IsSessionStateOf text.now
+    ensures opened { result ≡ 0 → IsSomeAnd session.new.session_handle.state (IsSessionStateOfText text.now
         rules.Strict) × IsTruncatedCopyToBuffer [] out.old out.new needed.new }
-    ensures no_graph { result ≡ 4 → (fault : FormatFault) × IsFormatFaultOf text.now fault
+    ensures no_graph { result ≡ 4 → (fault : FormatFault) × IsFormatFaultOfText text.now fault
         × IsTruncatedCopyToBuffer (format_fault_line fault) out.old out.new needed.new }
-    ensures refused { result ≡ 5 → (fault : GraphFault) × IsGraphFaultOf text.now fault
+    ensures refused { result ≡ 5 → (fault : GraphFault) × IsFirstGraphFaultOfText text.now fault
         × IsTruncatedCopyToBuffer (graph_fault_line fault) out.old out.new needed.new }
     ensures memory { result ≡ 7 → IsTruncatedCopyToBuffer out_of_memory_line out.old out.new needed.new }
     ensures no_other { (result ≡ 0) ⊎ (result ≡ 4) ⊎ (result ≡ 5) ⊎ (result ≡ 7) }

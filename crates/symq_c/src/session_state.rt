@@ -2,7 +2,7 @@
 
 ghost use Rattle.std.specs.Prelude.{IfOk, IfErr};
 ghost use Rattle.symq_c.specs.inner.GraphTexts.{IsGraphRefusal};
-ghost use Rattle.symq_c.specs.Sessions.{IsSessionStateOf};
+ghost use Rattle.symq_c.specs.Sessions.{IsSessionStateOfText};
 
 use crate::graph_of_text::graph_of;
 use std::alloc::Global;
@@ -28,7 +28,7 @@ pub(crate) fn state_of(
     rules: Rules,
     text: &[u8],
 ) -> Result<Box<SessionState>, ExitError>
-    ensures accepted { IfOk result (λ state. IsSessionStateOf text.now rules state.value) }
+    ensures accepted { IfOk result (λ state. IsSessionStateOfText text.now rules state.value) }
     ensures refused { IfErr result (λ exit_error. IsGraphRefusal text.now exit_error) }
 {
     let graph = graph_of(alloc, key_bytes, text)?;

@@ -4,7 +4,7 @@ use Rattle.std.specs.Io.KnownBytes.{Appends}
 use Rattle.std.proofs.KnownBytes.{Appends-nil, Appends-trans}
 use Rattle.symq_core.specs.declared.device.DeviceFault.{DeviceFault}
 use Rattle.symq_core.specs.Devices.{failures_in_write}
-use Rattle.symq_core.specs.Serving.{AppendsPrefix}
+use Rattle.symq_core.specs.Serving.{IsPrefixAppendedToOutput}
 use Rattle.symq_core.specs.inner.Sessions.{SendsText}
 
 -- a write that accepts some bytes is no failure
@@ -13,17 +13,18 @@ write_counts_none zero h = absurd (omega arith)
 write_counts_none (suc n) h = refl
 
 -- writing nothing writes a beginning of any text
-pub begins_nothing : (a : Option (List ℕ)) (text : List ℕ) → AppendsPrefix a a text
+pub begins_nothing : (a : Option (List ℕ)) (text : List ℕ) → IsPrefixAppendedToOutput a a text
 begins_nothing a text = ([], text, refl, Appends-nil a)
 
-pub begins_after : (a b c : Option (List ℕ)) (sent text : List ℕ) → Appends a b sent → AppendsPrefix b c text → AppendsPrefix a c (sent ++ text)
+pub begins_after : (a b c : Option (List ℕ)) (sent text : List ℕ) → Appends a b sent → IsPrefixAppendedToOutput b c text → IsPrefixAppendedToOutput a c
+    (sent ++ text)
 begins_after a b c sent text p q =
     (sent ++ q.0, q.1, ap (λ t. sent ++ t) q.2 ∙ sym (append_assoc sent q.0 q.1), Appends-trans a b c sent q.0 p q.3)
 
-pub begins_longer : (a b : Option (List ℕ)) (text more : List ℕ) → AppendsPrefix a b text → AppendsPrefix a b (text ++ more)
+pub begins_longer : (a b : Option (List ℕ)) (text more : List ℕ) → IsPrefixAppendedToOutput a b text → IsPrefixAppendedToOutput a b (text ++ more)
 begins_longer a b text more p = (p.0, p.1 ++ more, ap (λ t. t ++ more) p.2 ∙ append_assoc p.0 p.1 more, p.3)
 
-pub begins_whole : (a b : Option (List ℕ)) (text : List ℕ) → Appends a b text → AppendsPrefix a b text
+pub begins_whole : (a b : Option (List ℕ)) (text : List ℕ) → Appends a b text → IsPrefixAppendedToOutput a b text
 begins_whole a b text p = (text, [], sym (append-nil text), p)
 
 -- sending nothing leaves what is pending
@@ -42,9 +43,11 @@ pub sends_all : (a b c : Option (List ℕ)) (u v s : List ℕ) → SendsText a b
 sends_all a b c u v s p q = subst (Appends a c) (sym p.1) (Appends-trans a b c p.0 v p.2 q)
 
 -- if a beginning of the pending text and of a further one is written, it is a beginning of both
-pub sends_beginning : (a b c : Option (List ℕ)) (u v s t : List ℕ) → SendsText a b u v s → AppendsPrefix b c (v ++ t) → AppendsPrefix a c (u ++ (s ++ t))
+pub sends_beginning : (a b c : Option (List ℕ)) (u v s t : List ℕ) → SendsText a b u v s → IsPrefixAppendedToOutput b c (v ++ t) → IsPrefixAppendedToOutput a c
+    (u ++ (s ++ t))
 sends_beginning a b c u v s t p q =
-    subst (AppendsPrefix a c) (sym (append_assoc p.0 v t) ∙ ap (λ x. x ++ t) (sym p.1) ∙ append_assoc u s t) (begins_after a b c p.0 (v ++ t) p.2 q)
+    subst (IsPrefixAppendedToOutput a c) (sym (append_assoc p.0 v t) ∙ ap (λ x. x ++ t) (sym p.1) ∙ append_assoc u s t) (begins_after a b c p.0 (v ++ t) p.2 q)
 
-pub sends_beginning_of_waiting : (a b c : Option (List ℕ)) (u v s : List ℕ) → SendsText a b u v s → AppendsPrefix b c v → AppendsPrefix a c (u ++ s)
-sends_beginning_of_waiting a b c u v s p q = subst (AppendsPrefix a c) (sym p.1) (begins_after a b c p.0 v p.2 q)
+pub sends_beginning_of_waiting : (a b c : Option (List ℕ)) (u v s : List ℕ) → SendsText a b u v s → IsPrefixAppendedToOutput b c v
+    → IsPrefixAppendedToOutput a c (u ++ s)
+sends_beginning_of_waiting a b c u v s p q = subst (IsPrefixAppendedToOutput a c) (sym p.1) (begins_after a b c p.0 v p.2 q)

@@ -5,7 +5,7 @@ use Rattle.std.specs.Io.KnownBytes.{Appends}
 use Rattle.symq_core.specs.declared.fault.EngineFault.{EngineFault}
 use Rattle.symq_core.specs.declared.fault.EngineFault.TheVariants.{OutOfMemory, InputFailed, OutputFailed, InputTooLong}
 use Rattle.symq_core.specs.Lines.{split_at_newlines, all_but_last, last_or_empty, answer_lines}
-use Rattle.symq_core.specs.Serving.{AppendsPrefix}
+use Rattle.symq_core.specs.Serving.{IsPrefixAppendedToOutput}
 use Rattle.symq_core.specs.inner.Sessions.{split_with_partial_line, SendsText, IsLinesFault, IsWrittenLinesFault}
 use Rattle.symq_core.proofs.Parts.{some_joined, all_but_last-append, last_or_empty-append, answer_lines-append, parts_after_line, parts_after_unended}
 use Rattle.symq_core.proofs.Beginnings.{sends_then, sends_all, sends_beginning, sends_beginning_of_waiting, begins_longer}
@@ -40,10 +40,10 @@ begin_text answer u line ended other_items whole e h =
 one_more_begun : (answer : List ℕ → List ℕ) (a b c : Option (List ℕ)) (u v line₀ block line rest tail more : List ℕ) (ended : List (List ℕ))
     → split_with_partial_line line₀ block ≡ ended ++ split_with_partial_line line rest → split_at_newlines rest ≡ tail ∷ split_at_newlines more
     → SendsText a b u v (answer_lines answer ended)
-    → AppendsPrefix b c (v ++ answer_lines answer ((line ++ tail) ∷ []))
-    → AppendsPrefix a c (u ++ answer_lines answer (all_but_last (split_with_partial_line line₀ block)))
+    → IsPrefixAppendedToOutput b c (v ++ answer_lines answer ((line ++ tail) ∷ []))
+    → IsPrefixAppendedToOutput a c (u ++ answer_lines answer (all_but_last (split_with_partial_line line₀ block)))
 one_more_begun answer a b c u v line₀ block line rest tail more ended e f p q =
-    subst (AppendsPrefix a c) (begin_text answer u (line ++ tail) ended (split_with_partial_line [] more) (split_with_partial_line line₀ block)
+    subst (IsPrefixAppendedToOutput a c) (begin_text answer u (line ++ tail) ended (split_with_partial_line [] more) (split_with_partial_line line₀ block)
     (one_more_line line₀ block line rest tail more ended e f) (some_joined [] (split_at_newlines more)))
     (begins_longer a c _ (answer_lines answer (all_but_last (split_with_partial_line [] more)))
     (sends_beginning a b c u v (answer_lines answer ended) (answer_lines answer ((line ++ tail) ∷ [])) p q))
@@ -88,7 +88,7 @@ all_lines line₀ block line rest ended e f =
 -- a flush that fails has written a beginning of the answers to be sent
 pub flush_failed : {T : Type 0} (answer : List ℕ → List ℕ) (lines : List (List ℕ)) (r : Result T EngineFault) (a b c : Option (List ℕ))
     (u v w : List ℕ) (old mid new : ℕ)
-    → IfErr r (λ fault. (fault ≡ OutputFailed) × AppendsPrefix b c v × (new ≡ mid + 1)) → SendsText a b u v (answer_lines answer lines) → mid ≡ old
+    → IfErr r (λ fault. (fault ≡ OutputFailed) × IsPrefixAppendedToOutput b c v × (new ≡ mid + 1)) → SendsText a b u v (answer_lines answer lines) → mid ≡ old
     → IfErr r (IsLinesFault answer lines a c u w old new)
 flush_failed answer lines (Ok done) a b c u v w old mid new p q e = tt
 flush_failed answer lines (Err fault) a b c u v w old mid new p q e =
@@ -105,14 +105,14 @@ first_written answer lines a b c u v old mid new p q e =
 
 -- if writing them fails, a beginning of all answers is written
 pub first_begun : (answer : List ℕ → List ℕ) (lines : List (List ℕ)) (a b c : Option (List ℕ)) (u v : List ℕ) (old mid new : ℕ)
-    → IsLinesFault answer lines a b u v old mid OutOfMemory → AppendsPrefix b c v → new ≡ mid + 1
+    → IsLinesFault answer lines a b u v old mid OutOfMemory → IsPrefixAppendedToOutput b c v → new ≡ mid + 1
     → IsWrittenLinesFault answer lines a c u old new OutputFailed
 first_begun answer lines a b c u v old mid new p q e =
     let (first, later, parted, sent) = p.0 in
     let all : (u ++ answer_lines answer first) ++ answer_lines answer later ≡ u ++ answer_lines answer lines =
     append_assoc u (answer_lines answer first) (answer_lines answer later)
     ∙ ap (λ t. u ++ t) (sym (answer_lines-append answer first later) ∙ ap (answer_lines answer) (sym parted)) in (
-      subst (AppendsPrefix a c) all (begins_longer a c (u ++ answer_lines answer first) (answer_lines answer later)
+      subst (IsPrefixAppendedToOutput a c) all (begins_longer a c (u ++ answer_lines answer first) (answer_lines answer later)
           (sends_beginning_of_waiting a b c u v (answer_lines answer first) sent q)),
       e ∙ ap (λ n. n + 1) p.1,
     )

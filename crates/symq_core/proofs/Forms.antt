@@ -3,10 +3,10 @@ use Rattle.std.proofs.Common.{◌≡◌, ◌<◌, List, [], ◌∷◌, length, N
 use Rattle.json.specs.declared.value.Value.{Value}
 use Rattle.symq_reader.specs.JsonData.{items_data}
 use Rattle.symq_core.specs.ReferenceForms.{read_id_reference, read_qualified_reference, read_import_reference, keyword_and_items}
-use Rattle.symq_core.specs.Queries.{two_texts_and_items, read_module_question, read_exports_question, read_names_question}
-use Rattle.symq_core.specs.Queries.{read_symbol_question, read_one_symbol, read_deps_question, read_resolve_question}
+use Rattle.symq_core.specs.Queries.{two_strings_and_items, second_after_inputs, read_module_question, read_exports_question, read_names_question}
+use Rattle.symq_core.specs.Queries.{read_symbol_question, read_single_symbol_id, read_deps_question, read_resolve_question}
 
-pub two_short : {A : Type 0} (values : List (Value A)) → length values < 2 → two_texts_and_items (items_data values) ≡ None
+pub two_short : {A : Type 0} (values : List (Value A)) → length values < 2 → two_strings_and_items (items_data values) ≡ None
 two_short [] h = refl
 two_short (a ∷ []) h = refl
 two_short (a ∷ b ∷ values) h = absurd (omega arith)
@@ -34,11 +34,11 @@ symbol_long (a ∷ []) h = refl
 symbol_long (a ∷ b ∷ []) h = absurd (omega arith)
 symbol_long (a ∷ b ∷ c ∷ values) h = refl
 
-pub symbols_short : {A : Type 0} (values : List (Value A)) → length values < 1 → read_one_symbol (items_data values) ≡ None
+pub symbols_short : {A : Type 0} (values : List (Value A)) → length values < 1 → read_single_symbol_id (items_data values) ≡ None
 symbols_short [] h = refl
 symbols_short (a ∷ values) h = absurd (omega arith)
 
-pub symbols_long : {A : Type 0} (values : List (Value A)) → 1 < length values → read_one_symbol (items_data values) ≡ None
+pub symbols_long : {A : Type 0} (values : List (Value A)) → 1 < length values → read_single_symbol_id (items_data values) ≡ None
 symbols_long [] h = refl
 symbols_long (a ∷ []) h = absurd (omega arith)
 symbols_long (a ∷ b ∷ values) h = refl
@@ -101,3 +101,14 @@ resolve_long (a ∷ b ∷ values) h = refl
 pub keyword_short : {A : Type 0} (values : List (Value A)) → length values < 1 → keyword_and_items (items_data values) ≡ None
 keyword_short [] h = refl
 keyword_short (a ∷ values) h = absurd (omega arith)
+
+pub inputs_short : {A : Type 0} (values : List (Value A)) → length values < 2 → second_after_inputs (items_data values) ≡ None
+inputs_short [] h = refl
+inputs_short (a ∷ []) h = refl
+inputs_short (a ∷ b ∷ values) h = absurd (omega arith)
+
+pub inputs_long : {A : Type 0} (values : List (Value A)) → 2 < length values → second_after_inputs (items_data values) ≡ None
+inputs_long [] h = refl
+inputs_long (a ∷ []) h = refl
+inputs_long (a ∷ b ∷ []) h = absurd (omega arith)
+inputs_long (a ∷ b ∷ c ∷ values) h = refl

@@ -7,7 +7,7 @@ use Rattle.symq_reader.specs.declared.faults.FormatFault.{FormatFault}
 use Rattle.symq_reader.specs.declared.faults.FormatFault.TheVariants as format
 use Rattle.symq_core.specs.declared.exit_error.ExitError.TheVariants as exit
 use Rattle.symq_reader.specs.GraphText.{IsReadOutcome, read_outcome_of_bytes}
-use Rattle.symq_core.specs.Arguments.{FileReads, rules_and_path_of_args, IsArgsFault}
+use Rattle.symq_core.specs.Arguments.{FileReadOutcomes, rules_and_path_of_args, IsArgsFault}
 
 abbrev value_or : {A D : Type 0} → A → Result A D → A
 value_or default (Ok x) = x
@@ -19,7 +19,7 @@ ok_before (Ok y) mapped x was is = ap (λ z. Ok z) (ap (value_or y) (sym is ∙ 
 ok_before (Err e) mapped x was is = absurd is
 
 -- the bytes of the file are no graph, or an allocation failed
-pub no_graph : (reads : FileReads) (args : List (List ℕ)) (rules : Rules) (path : List ℕ) (bytes : Vec ℕ Global)
+pub no_graph : (reads : FileReadOutcomes) (args : List (List ℕ)) (rules : Rules) (path : List ℕ) (bytes : Vec ℕ Global)
     → rules_and_path_of_args args ≡ Some (rules, path) → reads path (Ok bytes) → (fault : FormatFault)
     → IsReadOutcome (Err fault) (read_outcome_of_bytes bytes.items) → IsArgsFault reads args (exit.Format fault)
 no_graph reads args rules path bytes named read format.OutOfMemory is = tt

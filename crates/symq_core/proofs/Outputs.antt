@@ -7,7 +7,7 @@ use Rattle.symq_core.specs.declared.fault.EngineFault.{EngineFault}
 use Rattle.symq_core.specs.declared.fault.EngineFault.TheVariants.{OutOfMemory, InputFailed, OutputFailed, InputTooLong}
 use Rattle.symq_core.specs.Lines.{split_at_newlines, all_but_last, last_or_empty, nonempty_line, terminated_lines, input_lines, answer_lines}
 use Rattle.symq_core.specs.Lines.{output_text_of}
-use Rattle.symq_core.specs.Serving.{AppendsPrefix, WritesOutputPrefix, WritesFirstAnswers, IsServeFault}
+use Rattle.symq_core.specs.Serving.{IsPrefixAppendedToOutput, IsPrefixOfOutputWritten, AreFirstAnswersWritten, IsServeFault}
 use Rattle.symq_core.specs.inner.Sessions.{split_with_partial_line, IsWrittenLinesFault, WritesPendingAndFirst}
 use Rattle.symq_core.proofs.Parts.{terminated_lines-append, last_part_of-append, answer_lines-append}
 use Rattle.symq_core.proofs.Beginnings.{begins_after, begins_longer}
@@ -50,20 +50,21 @@ block_sent answer a b c read line waiting block e f p q = subst (Appends a c) (b
 pub block_begun : (answer : List ℕ → List ℕ) (a b c : Option (List ℕ)) (read line waiting block : List ℕ) → waiting ≡ []
     → line ≡ last_or_empty (split_at_newlines read)
     → Appends a b (answer_lines answer (terminated_lines read))
-    → AppendsPrefix b c (waiting ++ answer_lines answer (all_but_last (split_with_partial_line line block)))
-    → AppendsPrefix a c (answer_lines answer (terminated_lines (read ++ block)))
+    → IsPrefixAppendedToOutput b c (waiting ++ answer_lines answer (all_but_last (split_with_partial_line line block)))
+    → IsPrefixAppendedToOutput a c (answer_lines answer (terminated_lines (read ++ block)))
 block_begun answer a b c read line waiting block e f p q =
-    subst (AppendsPrefix a c) (block_answers answer read line waiting block e f) (begins_after a b c _ _ p q)
+    subst (IsPrefixAppendedToOutput a c) (block_answers answer read line waiting block e f) (begins_after a b c _ _ p q)
 
 -- a beginning of the answers to what was read is a beginning of the output
 pub begun_output : (answer : List ℕ → List ℕ) (input left a c : Option (List ℕ)) (read : List ℕ) → Consumes input left read
-    → AppendsPrefix a c (answer_lines answer (terminated_lines read))
-    → WritesOutputPrefix answer input a c
+    → IsPrefixAppendedToOutput a c (answer_lines answer (terminated_lines read))
+    → IsPrefixOfOutputWritten answer input a c
 begun_output answer None left a c read h p = tt
 begun_output answer (Some bytes) None a c read h p = absurd h
 begun_output answer (Some bytes) (Some ys) a c read h p =
     let whole = output_begins answer read ys in
-    subst (AppendsPrefix a c) (sym (ap (output_text_of answer) h ∙ whole.1)) (begins_longer a c (answer_lines answer (terminated_lines read)) whole.0 p)
+    subst (IsPrefixAppendedToOutput a c) (sym (ap (output_text_of answer) h ∙ whole.1))
+    (begins_longer a c (answer_lines answer (terminated_lines read)) whole.0 p)
 
 -- at the end of the input the answer to the last line completes the output
 output_at_end : (answer : List ℕ → List ℕ) (bytes left read line waiting : List ℕ) → Consumes (Some bytes) (Some left) read → left ≡ [] → waiting ≡ []
@@ -86,12 +87,12 @@ served_at_end answer (Some bytes) (Some ys) a b c read line waiting h end e f p 
 
 pub begun_at_end : (answer : List ℕ → List ℕ) (input left a b c : Option (List ℕ)) (read line waiting : List ℕ) → Consumes input left read → IsAtEnd left
     → waiting ≡ [] → line ≡ last_or_empty (split_at_newlines read)
-    → Appends a b (answer_lines answer (terminated_lines read)) → AppendsPrefix b c (waiting ++ answer_lines answer (nonempty_line line))
-    → WritesOutputPrefix answer input a c
+    → Appends a b (answer_lines answer (terminated_lines read)) → IsPrefixAppendedToOutput b c (waiting ++ answer_lines answer (nonempty_line line))
+    → IsPrefixOfOutputWritten answer input a c
 begun_at_end answer None left a b c read line waiting h end e f p q = tt
 begun_at_end answer (Some bytes) None a b c read line waiting h end e f p q = absurd h
 begun_at_end answer (Some bytes) (Some ys) a b c read line waiting h end e f p q =
-    subst (AppendsPrefix a c) (output_at_end answer bytes ys read line waiting h end e f) (begins_after a b c _ _ p q)
+    subst (IsPrefixAppendedToOutput a c) (output_at_end answer bytes ys read line waiting h end e f) (begins_after a b c _ _ p q)
 
 -- an input has at least as many bytes as were read of it
 pub read_within : (n : ℕ) (input left : Option (List ℕ)) (read : List ℕ) → Consumes input left read → n ≤ length read → IfSome input (λ bytes. n ≤ length bytes)
@@ -102,8 +103,8 @@ read_within n (Some bytes) (Some ys) read h le = omega (arith, le, ap length h, 
 -- a fault while lines are answered is a fault of serving
 pub fails_from : (answer : List ℕ → List ℕ) (lines : List (List ℕ)) (fault : EngineFault) (waiting : List ℕ) (old new : ℕ)
     (input left a b c : Option (List ℕ)) → IsWrittenLinesFault answer lines b c waiting old new fault
-    → (WritesPendingAndFirst answer lines b c waiting → WritesFirstAnswers answer input a c)
-    → (AppendsPrefix b c (waiting ++ answer_lines answer lines) → WritesOutputPrefix answer input a c)
+    → (WritesPendingAndFirst answer lines b c waiting → AreFirstAnswersWritten answer input a c)
+    → (IsPrefixAppendedToOutput b c (waiting ++ answer_lines answer lines) → IsPrefixOfOutputWritten answer input a c)
     → IsServeFault answer fault input left a c
 fails_from answer lines OutOfMemory waiting old new input left a b c h p q = p h.0
 fails_from answer lines OutputFailed waiting old new input left a b c h p q = q h.0
@@ -112,8 +113,8 @@ fails_from answer lines InputTooLong waiting old new input left a b c h p q = ab
 
 pub fails_if : {T : Type 0} (answer : List ℕ → List ℕ) (lines : List (List ℕ)) (r : Result T EngineFault) (waiting : List ℕ) (old new : ℕ)
     (input left a b c : Option (List ℕ)) → IfErr r (IsWrittenLinesFault answer lines b c waiting old new)
-    → (WritesPendingAndFirst answer lines b c waiting → WritesFirstAnswers answer input a c)
-    → (AppendsPrefix b c (waiting ++ answer_lines answer lines) → WritesOutputPrefix answer input a c)
+    → (WritesPendingAndFirst answer lines b c waiting → AreFirstAnswersWritten answer input a c)
+    → (IsPrefixAppendedToOutput b c (waiting ++ answer_lines answer lines) → IsPrefixOfOutputWritten answer input a c)
     → IfErr r (λ fault. IsServeFault answer fault input left a c)
 fails_if answer lines (Ok done) waiting old new input left a b c h p q = tt
 fails_if answer lines (Err fault) waiting old new input left a b c h p q = fails_from answer lines fault waiting old new input left a b c h p q
@@ -128,7 +129,7 @@ lines_begin read left =
 -- the answers to the lines before, and to some first lines after them, are answers to first lines of the input
 first_after : (answer : List ℕ → List ℕ) (bytes : List ℕ) (a b c : Option (List ℕ)) (before lines more : List (List ℕ)) (waiting : List ℕ) → waiting ≡ []
     → input_lines bytes ≡ (before ++ lines) ++ more → Appends a b (answer_lines answer before) → WritesPendingAndFirst answer lines b c waiting
-    → WritesFirstAnswers answer (Some bytes) a c
+    → AreFirstAnswersWritten answer (Some bytes) a c
 first_after answer bytes a b c before lines more waiting none e p q =
     let (first, later, parted, written) = q in (
       before ++ first,
@@ -144,7 +145,7 @@ pub block_first : (answer : List ℕ → List ℕ) (input left a b c : Option (L
     → waiting ≡ [] → line ≡ last_or_empty (split_at_newlines read)
     → Appends a b (answer_lines answer (terminated_lines read))
     → WritesPendingAndFirst answer (all_but_last (split_with_partial_line line block)) b c waiting
-    → WritesFirstAnswers answer input a c
+    → AreFirstAnswersWritten answer input a c
 block_first answer None left a b c read line waiting block h e f p q = tt
 block_first answer (Some bytes) None a b c read line waiting block h e f p q = absurd h
 block_first answer (Some bytes) (Some ys) a b c read line waiting block h e f p q =
@@ -158,7 +159,7 @@ block_first answer (Some bytes) (Some ys) a b c read line waiting block h e f p 
 pub last_first : (answer : List ℕ → List ℕ) (input left a b c : Option (List ℕ)) (read line waiting : List ℕ) → Consumes input left read → IsAtEnd left
     → waiting ≡ [] → line ≡ last_or_empty (split_at_newlines read)
     → Appends a b (answer_lines answer (terminated_lines read)) → WritesPendingAndFirst answer (nonempty_line line) b c waiting
-    → WritesFirstAnswers answer input a c
+    → AreFirstAnswersWritten answer input a c
 last_first answer None left a b c read line waiting h end e f p q = tt
 last_first answer (Some bytes) None a b c read line waiting h end e f p q = absurd h
 last_first answer (Some bytes) (Some ys) a b c read line waiting h end e f p q =

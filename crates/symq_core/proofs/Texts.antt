@@ -6,8 +6,10 @@ use Rattle.json.specs.Written.{Written, Writes}
 use Rattle.serde_json.specs.Data.{Data, Members}
 use Rattle.serde_json.specs.Written.{compact_text}
 use Rattle.serde_json.proofs.Texts.{print-outline}
-use Rattle.symq_core.specs.inner.JsonWriting.{AppendsTokens, tokens_of, remaining_member_tokens, star_member_tokens}
+use Rattle.symq_core.specs.inner.JsonWriting.{AppendsTokens, tokens_of, remaining_member_tokens, star_member_tokens, found_member_tokens}
 use Rattle.symbols_table.specs.DeclViews.{FileDepView}
+use Rattle.symbols_answers.specs.Inputs.{FoundView, found_module, found_redirect, found_absent}
+use Rattle.symq_core.specs.AnswerData.{with_found_members}
 use Rattle.symq_core.specs.PathData.{with_star_member}
 
 -- a write that succeeded has appended its token
@@ -28,3 +30,10 @@ pub star_before : (star : Option FileDepView) (rest : Members) → star_member_t
     ++ remaining_member_tokens rest ≡ remaining_member_tokens (with_star_member star rest)
 star_before None rest = refl
 star_before (Some dep) rest = refl
+
+-- the members after those for what the graph has under a specifier
+pub found_before : (found : FoundView) (rest : Members) → found_member_tokens found
+    ++ remaining_member_tokens rest ≡ remaining_member_tokens (with_found_members found rest)
+found_before found_module rest = refl
+found_before (found_redirect specifier) rest = refl
+found_before found_absent rest = refl

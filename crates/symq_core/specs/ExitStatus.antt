@@ -30,7 +30,7 @@ exit_error_status (ExitError.Graph fault) = graph_fault_exit_status fault
 exit_error_status (ExitError.Engine fault) = engine_fault_exit_status fault
 
 -- an error before the graph is checked: of the arguments, the file or its format
-abbrev pub IsStartupError : ExitError → Type 0
-IsStartupError (ExitError.Graph _) = ⊥
-IsStartupError (ExitError.Engine _) = ⊥
-IsStartupError _ = ⊤
+abbrev pub IsErrorBeforeGraphCheck : ExitError → Type 0
+IsErrorBeforeGraphCheck (ExitError.Graph _) = ⊥
+IsErrorBeforeGraphCheck (ExitError.Engine _) = ⊥
+IsErrorBeforeGraphCheck _ = ⊤

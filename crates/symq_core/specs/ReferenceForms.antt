@@ -45,5 +45,5 @@ keyword_and_items (item keyword rest) = option_map (λ w. (w, rest)) (as_str key
 keyword_and_items no_items = None
 
 -- the reference that a value describes; None if it is no reference
-abbrev pub reference_of_data : Data → Option SymbolReference
-reference_of_data value = option_and_then (λ parts. reference_by_keyword parts.0 parts.1) (option_and_then keyword_and_items (as_array value))
+abbrev pub reference_of_json : Data → Option SymbolReference
+reference_of_json value = option_and_then (λ parts. reference_by_keyword parts.0 parts.1) (option_and_then keyword_and_items (as_array value))

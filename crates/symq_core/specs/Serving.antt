@@ -7,28 +7,30 @@ use Rattle.symq_core.specs.declared.fault.EngineFault.{EngineFault}
 use Rattle.symq_core.specs.declared.fault.EngineFault.TheVariants.{OutOfMemory, InputFailed, OutputFailed, InputTooLong}
 
 -- a beginning of the text was appended to the output, if the output is known
-abbrev pub AppendsPrefix : Option (List ℕ) → Option (List ℕ) → List ℕ → Type 0
-AppendsPrefix old new text = (sent : List ℕ) × (unsent : List ℕ) × (text ≡ sent ++ unsent) × Appends old new sent
+abbrev pub IsPrefixAppendedToOutput : Option (List ℕ) → Option (List ℕ) → List ℕ → Type 0
+IsPrefixAppendedToOutput old new text = (sent : List ℕ) × (unsent : List ℕ) × (text ≡ sent ++ unsent) × Appends old new sent
 
 -- the output has the answers to exactly those lines that were read with their ends
-abbrev pub AnswersReadLines : (List ℕ → List ℕ) → Option (List ℕ) → Option (List ℕ) → Option (List ℕ) → Option (List ℕ) → Type 0
-AnswersReadLines answer input left old new = (read : List ℕ) × Consumes input left read × Appends old new (answer_lines answer (terminated_lines read))
+abbrev pub AreAnswersOfReadLinesWritten : (List ℕ → List ℕ) → Option (List ℕ) → Option (List ℕ) → Option (List ℕ) → Option (List ℕ) → Type 0
+AreAnswersOfReadLinesWritten answer input left old new = (read : List ℕ) × Consumes input left read × Appends old new
+    (answer_lines answer (terminated_lines read))
 
 -- a beginning of the whole output was written
-abbrev pub WritesOutputPrefix : (List ℕ → List ℕ) → Option (List ℕ) → Option (List ℕ) → Option (List ℕ) → Type 0
-WritesOutputPrefix answer input old new = IfSome input (λ bytes. AppendsPrefix old new (output_text_of answer bytes))
+abbrev pub IsPrefixOfOutputWritten : (List ℕ → List ℕ) → Option (List ℕ) → Option (List ℕ) → Option (List ℕ) → Type 0
+IsPrefixOfOutputWritten answer input old new = IfSome input (λ bytes. IsPrefixAppendedToOutput old new (output_text_of answer bytes))
 
 -- the answers to some first lines were written, each whole
-abbrev pub WritesFirstAnswers : (List ℕ → List ℕ) → Option (List ℕ) → Option (List ℕ) → Option (List ℕ) → Type 0
-WritesFirstAnswers answer input old new = IfSome input (λ bytes. (first : List (List ℕ)) × (later : List (List ℕ)) × (input_lines bytes ≡ first ++ later)
+abbrev pub AreFirstAnswersWritten : (List ℕ → List ℕ) → Option (List ℕ) → Option (List ℕ) → Option (List ℕ) → Type 0
+AreFirstAnswersWritten answer input old new = IfSome input (λ bytes. (first : List (List ℕ)) × (later : List (List ℕ)) × (input_lines bytes ≡ first ++ later)
     × Appends old new (answer_lines answer first))
 
 -- what was written when serving failed with a fault
 abbrev pub IsServeFault : (List ℕ → List ℕ) → EngineFault → Option (List ℕ) → Option (List ℕ) → Option (List ℕ) → Option (List ℕ) → Type 0
-IsServeFault answer OutOfMemory input left old new = WritesFirstAnswers answer input old new
-IsServeFault answer OutputFailed input left old new = WritesOutputPrefix answer input old new
-IsServeFault answer InputFailed input left old new = AnswersReadLines answer input left old new
-IsServeFault answer InputTooLong input left old new = AnswersReadLines answer input left old new × IfSome input (λ bytes. COUNT_LIMIT ≤ length bytes)
+IsServeFault answer OutOfMemory input left old new = AreFirstAnswersWritten answer input old new
+IsServeFault answer OutputFailed input left old new = IsPrefixOfOutputWritten answer input old new
+IsServeFault answer InputFailed input left old new = AreAnswersOfReadLinesWritten answer input left old new
+IsServeFault answer InputTooLong input left old new = AreAnswersOfReadLinesWritten answer input left old new × IfSome input
+    (λ bytes. COUNT_LIMIT ≤ length bytes)
 
 -- the failure that a result reports is counted, and no other
 abbrev pub CountsFailures : {T : Type 0} → Result T EngineFault → ℕ → ℕ → ℕ → ℕ → Type 0

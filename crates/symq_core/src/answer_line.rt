@@ -10,8 +10,8 @@ ghost use Rattle.symbols_queries.specs.AnswerViews.{answer_view};
 ghost use Rattle.symbols_queries.specs.Queries.{query_view};
 ghost use Rattle.symq_reader.specs.GraphText.{json_of_bytes};
 ghost use Rattle.symq_reader.specs.JsonData.{value_data};
-ghost use Rattle.symq_core.specs.Queries.{query_of_data};
-ghost use Rattle.symq_core.specs.AnswerData.{answer_data, answer_or_fault_data, query_result_data};
+ghost use Rattle.symq_core.specs.Queries.{query_of_json};
+ghost use Rattle.symq_core.specs.AnswerData.{answer_json, answer_or_fault_json, query_result_json};
 ghost use Rattle.symq_core.specs.AnswerTexts.{answer_text};
 ghost use Rattle.symq_core.specs.inner.JsonWriting.{AppendsValueTokensIfOk};
 
@@ -31,7 +31,7 @@ use symq_reader::read_value;
 
 /// Writes the symbol that a name refers to, or null.
 fn write_symbol(out: &mut Writer, symbol: Option<SymbolId>) -> Result<(), AllocError>
-    ensures { AppendsValueTokensIfOk result out.old out.new (answer_data (answer_symbol symbol)) }
+    ensures { AppendsValueTokensIfOk result out.old out.new (answer_json (answer_symbol symbol)) }
 {
     match symbol {
         Some(symbol) => write_number(out, "symbol", u64::from(symbol.number())),
@@ -42,7 +42,7 @@ fn write_symbol(out: &mut Writer, symbol: Option<SymbolId>) -> Result<(), AllocE
 /// Writes the fully qualified name of a symbol, or null.
 fn write_name(out: &mut Writer, name: &Option<String>) -> Result<(), AllocError>
     ensures { AppendsValueTokensIfOk result out.old out.new
-        (answer_data (answer_name (option_map string_bytes name.now))) }
+        (answer_json (answer_name (option_map string_bytes name.now))) }
 {
     match name {
         Some(name) => write_text(out, "name", name.as_str()),
@@ -52,7 +52,7 @@ fn write_name(out: &mut Writer, name: &Option<String>) -> Result<(), AllocError>
 
 /// Writes an answer as JSON; null if the specifier resolves to no module.
 fn write_answer(out: &mut Writer, answer: &Answer<'_>) -> Result<(), AllocError>
-    ensures { AppendsValueTokensIfOk result out.old out.new (answer_data (answer_view answer.now)) }
+    ensures { AppendsValueTokensIfOk result out.old out.new (answer_json (answer_view answer.now)) }
 {
     match answer {
         Answer::NoModule => out.null(),
@@ -66,6 +66,7 @@ fn write_answer(out: &mut Writer, answer: &Answer<'_>) -> Result<(), AllocError>
         Answer::Definitions(definitions) => write_list(out, "definitions", definitions),
         Answer::Leaves(ends) => write_list(out, "leaves", ends),
         Answer::Resolve(entries) => write_list(out, "entries", entries),
+        Answer::Inputs(inputs) => write_list(out, "inputs", inputs),
     }
 }
 
@@ -79,7 +80,7 @@ fn write_query_answer(
     requires { root.old.limits ≡ widest_limits }
     ensures grown { HasGrown root.old root.new }
     ensures value { AppendsValueTokensIfOk result out.old out.new
-        (answer_or_fault_data (query_answer root.old.rules root.old.graph (query_view query.now))) }
+        (answer_or_fault_json (query_answer root.old.rules root.old.graph (query_view query.now))) }
 {
     match root.answer(query) {
         Ok(answer) => write_answer(out, &answer),
@@ -101,7 +102,7 @@ fn write_value_answer<'r>(
     requires { root.old.limits ≡ widest_limits }
     ensures grown { HasGrown root.old root.new }
     ensures value { AppendsValueTokensIfOk result out.old out.new
-        (query_result_data root.old.rules root.old.graph (query_of_data (value_data value.now))) }
+        (query_result_json root.old.rules root.old.graph (query_of_json (value_data value.now))) }
 {
     match read_query(alloc, value, retained)? {
         Some(query) => write_query_answer(out, root, &query),
@@ -120,8 +121,8 @@ fn write_parsed_line_answer(
 ) -> Result<(), AllocError>
     requires { root.old.limits ≡ widest_limits }
     ensures grown { HasGrown root.old root.new }
-    ensures value { AppendsValueTokensIfOk result out.old out.new (query_result_data root.old.rules
-        root.old.graph (option_and_then query_of_data (json_of_bytes line.now))) }
+    ensures value { AppendsValueTokensIfOk result out.old out.new (query_result_json root.old.rules
+        root.old.graph (option_and_then query_of_json (json_of_bytes line.now))) }
 {
     let mut retained = None;
     let value = read_value(alloc, line, scratch)?;
@@ -141,8 +142,8 @@ fn write_line_answer(
 ) -> Result<(), AllocError>
     requires { root.old.limits ≡ widest_limits }
     ensures grown { HasGrown root.old root.new }
-    ensures value { AppendsValueTokensIfOk result out.old out.new (query_result_data root.old.rules
-        root.old.graph (option_and_then query_of_data (json_of_bytes line.now))) }
+    ensures value { AppendsValueTokensIfOk result out.old out.new (query_result_json root.old.rules
+        root.old.graph (option_and_then query_of_json (json_of_bytes line.now))) }
 {
     match fast_path_query(line) {
         Some(fast) => write_query_answer(out, root, &fast),

@@ -6,9 +6,9 @@ ghost use Rattle.std.specs.Global.{Global};
 ghost use Rattle.std.specs.Option.{option_map};
 ghost use Rattle.std.specs.Vec.Iter.{into_iter_items};
 ghost use Rattle.symbols_root.specs.declared.rules.Rules.{Rules};
-ghost use Rattle.symq_core.specs.ExitStatus.{IsStartupError};
-ghost use Rattle.symq_core.specs.Arguments.{rules_and_path_of, rules_and_path_of_args};
-ghost use Rattle.symq_core.specs.Arguments.{AreRulesAndGraphOfArgs, IsArgsFault, IsFileError};
+ghost use Rattle.symq_core.specs.ExitStatus.{IsErrorBeforeGraphCheck};
+ghost use Rattle.symq_core.specs.Arguments.{rules_and_path_of_first_two_args, rules_and_path_of_args};
+ghost use Rattle.symq_core.specs.Arguments.{AreRulesAndGraphOfArgs, IsArgsFault, IsErrorOfUnreadFile};
 
 use crate::exit_error::ExitError;
 use std::alloc::Global;
@@ -20,19 +20,10 @@ use symbols_graph::RawGraph;
 use symbols_root::Rules;
 use symq_reader::{FormatFault, read_graph};
 
-/// Returns the error for arguments that can't be read: out of memory, or else a usage error.
-fn args_error(kind: ErrorKind) -> ExitError
-    ensures { IsStartupError result }
-{
-    match kind {
-        ErrorKind::OutOfMemory => ExitError::Format(FormatFault::OutOfMemory),
-        _ => ExitError::Usage,
-    }
-}
-
-/// Returns the error for a file that can't be read: out of memory, or else an unreadable file.
+/// Returns the error for a file, or an argument, that can't be read: out of memory, or else an
+/// unreadable file. An argument that isn't UTF-8 names no file that this program can open.
 fn file_error(kind: ErrorKind) -> ExitError
-    ensures { IsFileError result }
+    ensures { IsErrorOfUnreadFile result }
 {
     match kind {
         ErrorKind::OutOfMemory => ExitError::Format(FormatFault::OutOfMemory),
@@ -42,10 +33,13 @@ fn file_error(kind: ErrorKind) -> ExitError
 
 /// Returns the rules and the path that the arguments name: `GRAPH` or `--strict GRAPH`. It is
 /// `None` if there are two arguments and the first isn't `--strict`.
-fn rules_and_path_of(first: String, second: Option<String>) -> Option<(Rules, String)>
+fn rules_and_path_of_first_two_args(
+    first: String,
+    second: Option<String>,
+) -> Option<(Rules, String)>
     ensures { option_map (λ (started : Rules × String Global). (started.0, string_bytes started.1))
         result
-        ≡ rules_and_path_of (string_bytes first) (option_map string_bytes second) }
+        ≡ rules_and_path_of_first_two_args (string_bytes first) (option_map string_bytes second) }
 {
     match second {
         None => Some((Rules::Deno, first)),
@@ -71,7 +65,7 @@ fn rules_and_path_of_args(mut args: Args) -> Option<(Rules, String)>
     if args.next().is_some() {
         return None;
     }
-    rules_and_path_of(first, second)
+    rules_and_path_of_first_two_args(first, second)
 }
 
 /// Returns the rules and the raw graph of the file that the arguments name: `GRAPH` or `--strict
@@ -89,7 +83,7 @@ pub fn read_args_with<F: FnOnce(&str) -> io::Result<Vec<u8>> + Drop>(
         (map string_bytes (into_iter_items args)) started.0 started.1) }
     ensures fails { IfErr result (IsArgsFault (FnOnceReturnsAt F.FnOnce read)
         (map string_bytes (into_iter_items args))) }
-    ensures startup { IfErr result IsStartupError }
+    ensures startup { IfErr result IsErrorBeforeGraphCheck }
 {
     let Some((rules, path)) = rules_and_path_of_args(args) else {
         return Err(ExitError::Usage);
@@ -104,8 +98,8 @@ pub fn read_args_with<F: FnOnce(&str) -> io::Result<Vec<u8>> + Drop>(
 /// Returns the rules and the raw graph of the file that the program's arguments name, as
 /// `read_args_with` does. No contract covers what the arguments and the file contain.
 pub fn read_args<R: Files + Env + AllocGlobal>(rt: &R) -> Result<(Rules, RawGraph), ExitError>
-    ensures { IfErr result IsStartupError }
+    ensures { IfErr result IsErrorBeforeGraphCheck }
 {
-    let args = env::args(rt).map_err(|error| args_error(error.kind()))?;
+    let args = env::args(rt).map_err(|error| file_error(error.kind()))?;
     read_args_with(rt.alloc(), args, |path| fs::read(rt, path))
 }

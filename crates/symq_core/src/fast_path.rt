@@ -6,10 +6,10 @@
 ghost use Rattle.std.specs.Prelude.{◌≡◌, Some, IfSome, option_map};
 ghost use Rattle.std.specs.Option.{option_and_then};
 ghost use Rattle.serde_json.specs.Data.{unsigned, number, string, no_items, item};
-ghost use Rattle.symbols_queries.specs.Queries.{query_of_question, query_view};
+ghost use Rattle.symbols_queries.specs.Queries.{query_with_question, query_view};
 ghost use Rattle.symq_reader.specs.GraphText.{json_of_bytes};
 ghost use Rattle.symq_reader.specs.QueryLists.{list_tail_items};
-ghost use Rattle.symq_core.specs.Queries.{question_by_keyword, query_of_data};
+ghost use Rattle.symq_core.specs.Queries.{question_by_keyword, query_of_json};
 
 use crate::query::deps_mode_by_keyword;
 use symbols_graph::ids::SymbolId;
@@ -19,7 +19,7 @@ use symq_reader::{ListTail, QueryList, read_query_list};
 /// Returns the query of a keyword with a specifier alone; `None` if no such query has this keyword.
 fn query_of_module<'r>(keyword: &str, specifier: &'r str) -> Option<Query<'r>>
     ensures { option_map query_view result
-        ≡ option_map (query_of_question specifier.now) (question_by_keyword keyword.now no_items) }
+        ≡ option_map (query_with_question specifier.now) (question_by_keyword keyword.now no_items) }
 {
     match keyword {
         "module" => Some(Query::Module(specifier)),
@@ -32,7 +32,7 @@ fn query_of_module<'r>(keyword: &str, specifier: &'r str) -> Option<Query<'r>>
 /// Returns the query of a keyword with a specifier and a symbol; `None` if no such query has this
 /// keyword.
 fn query_of_symbol<'r>(keyword: &str, specifier: &'r str, symbol: SymbolId) -> Option<Query<'r>>
-    ensures { option_map query_view result ≡ option_map (query_of_question specifier.now)
+    ensures { option_map query_view result ≡ option_map (query_with_question specifier.now)
         (question_by_keyword
         keyword.now (item (number (unsigned symbol.0)) no_items)) }
 {
@@ -53,7 +53,7 @@ fn query_of_mode<'r>(
     symbol: SymbolId,
     mode: &str,
 ) -> Option<Query<'r>>
-    ensures { option_map query_view result ≡ option_map (query_of_question specifier.now)
+    ensures { option_map query_view result ≡ option_map (query_with_question specifier.now)
         (question_by_keyword keyword.now
         (item (number (unsigned symbol.0)) (item (string mode.now) no_items))) }
 {
@@ -65,7 +65,7 @@ fn query_of_mode<'r>(
 
 /// Returns the query of a list on the fast path; `None` if it is no query.
 fn query_of_list<'r>(list: &QueryList<'r>) -> Option<Query<'r>>
-    ensures { option_map query_view result ≡ option_map (query_of_question
+    ensures { option_map query_view result ≡ option_map (query_with_question
         list.now.second.now)
         (question_by_keyword list.now.first.now (list_tail_items list.now.tail)) }
 {
@@ -81,7 +81,7 @@ fn query_of_list<'r>(list: &QueryList<'r>) -> Option<Query<'r>>
 /// Returns the query of a line on the fast path. `None` doesn't mean that the line is no query.
 pub(crate) fn fast_path_query<'r>(line: &'r [u8]) -> Option<Query<'r>>
     ensures { IfSome result
-        (λ query. option_and_then query_of_data (json_of_bytes line.now) ≡ Some
+        (λ query. option_and_then query_of_json (json_of_bytes line.now) ≡ Some
         (query_view query)) }
 {
     let list = read_query_list(line)?;

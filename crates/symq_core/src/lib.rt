@@ -21,6 +21,7 @@ mod streams;
 mod write_all;
 mod write_deps;
 mod write_exports;
+mod write_inputs;
 mod write_json;
 mod write_paths;
 mod write_public_names;

@@ -1,12 +1,14 @@
 //! Reads queries from JSON values.
 
 ghost use Rattle.std.specs.Prelude.{◌≡◌, option_map, IfOk};
-ghost use Rattle.symbols_queries.specs.Queries.{query_of_question, query_view};
+ghost use Rattle.symbols_queries.specs.Queries.{query_with_question, query_view};
 ghost use Rattle.symq_reader.specs.JsonData.{value_data, items_data};
-ghost use Rattle.symq_core.specs.Queries.{query_of_data, keyword_specifier_and_items};
+ghost use Rattle.symq_core.specs.Queries.{query_of_json, keyword_specifier_and_items};
+ghost use Rattle.symq_core.specs.Queries.{query_by_keyword, value_after_inputs};
+ghost use Rattle.symq_core.specs.Queries.{inputs_query_of_data};
 ghost use Rattle.symq_core.specs.Queries.{read_module_question, read_exports_question};
 ghost use Rattle.symq_core.specs.Queries.{read_names_question, read_symbol_question};
-ghost use Rattle.symq_core.specs.Queries.{read_one_symbol, read_name_question};
+ghost use Rattle.symq_core.specs.Queries.{read_single_symbol_id, read_name_question};
 ghost use Rattle.symq_core.specs.Queries.{read_paths_question, read_definitions_question};
 ghost use Rattle.symq_core.specs.Queries.{read_leaves_question};
 ghost use Rattle.symq_core.specs.Queries.{deps_mode_by_keyword, read_deps_question};
@@ -40,7 +42,7 @@ fn keyword_specifier_and_items<'v, 'a>(
 #[tactic(auto, using(crate::proofs::Forms::module_long))]
 fn module_query<'r>(specifier: &'r str, items: &[Value<'_>]) -> Option<Query<'r>>
     ensures { option_map query_view result
-        ≡ option_map (query_of_question specifier.now)
+        ≡ option_map (query_with_question specifier.now)
         (read_module_question (items_data items.now)) }
 {
     match items {
@@ -53,7 +55,7 @@ fn module_query<'r>(specifier: &'r str, items: &[Value<'_>]) -> Option<Query<'r>
 #[tactic(auto, using(crate::proofs::Forms::exports_long))]
 fn exports_query<'r>(specifier: &'r str, items: &[Value<'_>]) -> Option<Query<'r>>
     ensures { option_map query_view result
-        ≡ option_map (query_of_question specifier.now)
+        ≡ option_map (query_with_question specifier.now)
         (read_exports_question (items_data items.now)) }
 {
     match items {
@@ -66,7 +68,7 @@ fn exports_query<'r>(specifier: &'r str, items: &[Value<'_>]) -> Option<Query<'r
 #[tactic(auto, using(crate::proofs::Forms::names_long))]
 fn names_query<'r>(specifier: &'r str, items: &[Value<'_>]) -> Option<Query<'r>>
     ensures { option_map query_view result
-        ≡ option_map (query_of_question specifier.now)
+        ≡ option_map (query_with_question specifier.now)
         (read_names_question (items_data items.now)) }
 {
     match items {
@@ -83,7 +85,7 @@ fn symbol_query<'r>(
     items: &[Value<'_>],
 ) -> Result<Option<Query<'r>>, AllocError>
     ensures { IfOk result (λ query. option_map query_view query
-        ≡ option_map (query_of_question specifier.now)
+        ≡ option_map (query_with_question specifier.now)
         (read_symbol_question (items_data items.now))) }
 {
     let [name, scope] = items else {
@@ -97,8 +99,8 @@ fn symbol_query<'r>(
 
 /// Returns the symbol if its number is the only item; otherwise `None`.
 #[tactic(auto, using(crate::proofs::Forms::symbols_short, crate::proofs::Forms::symbols_long))]
-fn read_one_symbol(items: &[Value<'_>]) -> Option<SymbolId>
-    ensures { result ≡ read_one_symbol (items_data items.now) }
+fn read_single_symbol_id(items: &[Value<'_>]) -> Option<SymbolId>
+    ensures { result ≡ read_single_symbol_id (items_data items.now) }
 {
     match items {
         [number] => Some(SymbolId::from_number(as_u32(number)?)),
@@ -109,39 +111,39 @@ fn read_one_symbol(items: &[Value<'_>]) -> Option<SymbolId>
 /// Returns the query `name`; `None` if the items aren't one symbol.
 fn name_query<'r>(specifier: &'r str, items: &[Value<'_>]) -> Option<Query<'r>>
     ensures { option_map query_view result
-        ≡ option_map (query_of_question specifier.now) (read_name_question (items_data items.now)) }
+        ≡ option_map (query_with_question specifier.now) (read_name_question (items_data items.now)) }
 {
-    let symbol = read_one_symbol(items)?;
+    let symbol = read_single_symbol_id(items)?;
     Some(Query::Name(specifier, symbol))
 }
 
 /// Returns the query `paths`; `None` if the items aren't one symbol.
 fn paths_query<'r>(specifier: &'r str, items: &[Value<'_>]) -> Option<Query<'r>>
     ensures { option_map query_view result
-        ≡ option_map (query_of_question specifier.now)
+        ≡ option_map (query_with_question specifier.now)
         (read_paths_question (items_data items.now)) }
 {
-    let symbol = read_one_symbol(items)?;
+    let symbol = read_single_symbol_id(items)?;
     Some(Query::Paths(specifier, symbol))
 }
 
 /// Returns the query `definitions`; `None` if the items aren't one symbol.
 fn definitions_query<'r>(specifier: &'r str, items: &[Value<'_>]) -> Option<Query<'r>>
     ensures { option_map query_view result
-        ≡ option_map (query_of_question specifier.now)
+        ≡ option_map (query_with_question specifier.now)
         (read_definitions_question (items_data items.now)) }
 {
-    let symbol = read_one_symbol(items)?;
+    let symbol = read_single_symbol_id(items)?;
     Some(Query::Definitions(specifier, symbol))
 }
 
 /// Returns the query `leaves`; `None` if the items aren't one symbol.
 fn leaves_query<'r>(specifier: &'r str, items: &[Value<'_>]) -> Option<Query<'r>>
     ensures { option_map query_view result
-        ≡ option_map (query_of_question specifier.now)
+        ≡ option_map (query_with_question specifier.now)
         (read_leaves_question (items_data items.now)) }
 {
-    let symbol = read_one_symbol(items)?;
+    let symbol = read_single_symbol_id(items)?;
     Some(Query::Leaves(specifier, symbol))
 }
 
@@ -155,7 +157,7 @@ fn resolve_query<'r>(
     retained: &'r mut Option<Id>,
 ) -> Result<Option<Query<'r>>, AllocError>
     ensures { IfOk result (λ query. option_map query_view query
-        ≡ option_map (query_of_question specifier.now)
+        ≡ option_map (query_with_question specifier.now)
         (read_resolve_question (items_data items.now))) }
 {
     let [reference] = items else {
@@ -183,7 +185,7 @@ pub(crate) fn deps_mode_by_keyword(keyword: &str) -> Option<ResolveDepsMode>
 #[tactic(auto, using(crate::proofs::Forms::deps_short, crate::proofs::Forms::deps_long))]
 fn deps_query<'r>(specifier: &'r str, items: &[Value<'_>]) -> Option<Query<'r>>
     ensures { option_map query_view result
-        ≡ option_map (query_of_question specifier.now) (read_deps_question (items_data items.now)) }
+        ≡ option_map (query_with_question specifier.now) (read_deps_question (items_data items.now)) }
 {
     let [number, mode] = items else {
         return None;
@@ -193,19 +195,18 @@ fn deps_query<'r>(specifier: &'r str, items: &[Value<'_>]) -> Option<Query<'r>>
     Some(Query::Deps(specifier, symbol, mode))
 }
 
-/// Returns the query that a JSON value describes; `None` if it is no query. The name of a queried
-/// reference is stored in `retained`.
-pub(crate) fn read_query<'r>(
+/// Returns the query of a keyword, a specifier and the items after them; `None` if there is no such
+/// query. The name of a queried reference is stored in `retained`.
+fn query_by_keyword<'r>(
     alloc: Global,
-    value: &Value<'r>,
+    keyword: &str,
+    specifier: &'r str,
+    items: &[Value<'r>],
     retained: &'r mut Option<Id>,
 ) -> Result<Option<Query<'r>>, AllocError>
-    ensures { IfOk result
-        (λ query. option_map query_view query ≡ query_of_data (value_data value.now)) }
+    ensures { IfOk result (λ query. option_map query_view query
+        ≡ query_by_keyword (keyword.now, specifier.now, items_data items.now)) }
 {
-    let Some((keyword, specifier, items)) = keyword_specifier_and_items(value) else {
-        return Ok(None);
-    };
     match keyword {
         "module" => Ok(module_query(specifier, items)),
         "exports" => Ok(exports_query(specifier, items)),
@@ -218,5 +219,60 @@ pub(crate) fn read_query<'r>(
         "leaves" => Ok(leaves_query(specifier, items)),
         "resolve" => resolve_query(alloc, specifier, items, retained),
         _ => Ok(None),
+    }
+}
+
+/// Returns the value after the keyword `inputs`; `None` if the value isn't a list of these two.
+#[tactic(auto, using(crate::proofs::Forms::inputs_short, crate::proofs::Forms::inputs_long))]
+fn value_after_inputs<'v, 'a>(value: &'v Value<'a>) -> Option<&'v Value<'a>>
+    ensures { option_map (λ queried. value_data queried.now) result
+        ≡ value_after_inputs (value_data value.now) }
+{
+    let [keyword, queried] = as_list(value)? else {
+        return None;
+    };
+    match as_text(keyword)? {
+        "inputs" => Some(queried),
+        _ => None,
+    }
+}
+
+/// Returns the query for the inputs of a query; `None` if the value describes none. The name of a
+/// queried reference is stored in `retained`.
+fn inputs_query<'r>(
+    alloc: Global,
+    value: &Value<'r>,
+    retained: &'r mut Option<Id>,
+) -> Result<Option<Query<'r>>, AllocError>
+    ensures { IfOk result
+        (λ query. option_map query_view query ≡ inputs_query_of_data (value_data value.now)) }
+{
+    let Some(queried) = value_after_inputs(value) else {
+        return Ok(None);
+    };
+    let Some((keyword, specifier, items)) = keyword_specifier_and_items(queried) else {
+        return Ok(None);
+    };
+    match query_by_keyword(alloc, keyword, specifier, items, retained)? {
+        Some(query) => Ok(Some(query.inputs())),
+        None => Ok(None),
+    }
+}
+
+/// Returns the query that a JSON value describes; `None` if it is no query. The name of a queried
+/// reference is stored in `retained`.
+pub(crate) fn read_query<'r>(
+    alloc: Global,
+    value: &Value<'r>,
+    retained: &'r mut Option<Id>,
+) -> Result<Option<Query<'r>>, AllocError>
+    ensures { IfOk result
+        (λ query. option_map query_view query ≡ query_of_json (value_data value.now)) }
+{
+    match keyword_specifier_and_items(value) {
+        Some((keyword, specifier, items)) => {
+            query_by_keyword(alloc, keyword, specifier, items, retained)
+        }
+        None => inputs_query(alloc, value, retained),
     }
 }

@@ -12,7 +12,7 @@ ghost use Rattle.symq_reader.specs.UnderKeys.{read_each_item};
 ghost use Rattle.symq_core.specs.ReferenceForms.{read_id, read_string_list, read_id_reference};
 ghost use Rattle.symq_core.specs.ReferenceForms.{read_qualified_reference};
 ghost use Rattle.symq_core.specs.ReferenceForms.{read_import_reference, keyword_and_items};
-ghost use Rattle.symq_core.specs.ReferenceForms.{reference_of_data};
+ghost use Rattle.symq_core.specs.ReferenceForms.{reference_of_json};
 
 use json::Value;
 use std::alloc::{AllocError, Global};
@@ -150,7 +150,7 @@ pub(crate) fn read_reference<'r>(
     retained: &'r mut Option<Id>,
 ) -> Result<Option<SymbolNodeDep<'r>>, AllocError>
     ensures { IfOk result
-        (λ found. option_map reference_view found ≡ reference_of_data (value_data value.now)) }
+        (λ found. option_map reference_view found ≡ reference_of_json (value_data value.now)) }
 {
     let Some((keyword, items)) = keyword_and_items(value) else {
         return Ok(None);

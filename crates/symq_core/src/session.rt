@@ -9,7 +9,7 @@ ghost use Rattle.symq_core.specs.AnswerTexts.{answer_text};
 ghost use Rattle.symq_core.specs.Devices.{COUNT_LIMIT};
 ghost use Rattle.symq_core.specs.Lines.{line_end, all_but_last, last_or_empty, nonempty_line};
 ghost use Rattle.symq_core.specs.Lines.{answer_lines};
-ghost use Rattle.symq_core.specs.Serving.{AppendsPrefix};
+ghost use Rattle.symq_core.specs.Serving.{IsPrefixAppendedToOutput};
 ghost use Rattle.symq_core.specs.inner.Sessions.{SendsText, IsLinesFault, IsWrittenLinesFault};
 ghost use Rattle.symq_core.specs.inner.Sessions.{line_answer, split_with_partial_line};
 
@@ -99,7 +99,7 @@ impl<'g> Session<'g> {
             (Appends (W.written writer.old) (W.written writer.new) self.old.answers.items
             × (self.new.answers.items ≡ []) × (W.failures writer.new ≡ W.failures writer.old)) }
         ensures err { IfErr result (λ fault. (fault ≡ EngineFault.OutputFailed)
-            × AppendsPrefix (W.written writer.old) (W.written writer.new) self.old.answers.items
+            × IsPrefixAppendedToOutput (W.written writer.old) (W.written writer.new) self.old.answers.items
             × (W.failures writer.new ≡ W.failures writer.old + 1)) }
     {
         write_all(writer, self.answers.as_slice())?;

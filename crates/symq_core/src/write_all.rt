@@ -3,7 +3,7 @@
 ghost use Rattle.std.specs.Prelude.{◌≡◌, ◌+◌, ◌<◌, OnOk, IfErr};
 ghost use Rattle.std.specs.Io.KnownBytes.{Appends};
 ghost use Rattle.symq_core.specs.Devices.{COUNT_LIMIT};
-ghost use Rattle.symq_core.specs.Serving.{AppendsPrefix};
+ghost use Rattle.symq_core.specs.Serving.{IsPrefixAppendedToOutput};
 
 use crate::device::Output;
 use crate::fault::EngineFault;
@@ -15,7 +15,7 @@ pub(crate) fn write_all<W: Output>(writer: &mut W, bytes: &[u8]) -> Result<(), E
     ensures ok { OnOk result (Appends (W.written writer.old) (W.written writer.new) bytes.now
         × (W.failures writer.new ≡ W.failures writer.old)) }
     ensures err { IfErr result (λ fault. (fault ≡ EngineFault.OutputFailed)
-        × AppendsPrefix (W.written writer.old) (W.written writer.new) bytes.now
+        × IsPrefixAppendedToOutput (W.written writer.old) (W.written writer.new) bytes.now
         × (W.failures writer.new ≡ W.failures writer.old + 1)) }
 {
     let mut rest = bytes;

@@ -4,11 +4,11 @@ ghost use Rattle.std.specs.Prelude.{◌≡◌, ℕ, List, map};
 ghost use Rattle.std.specs.Cow.{cow_str_bytes};
 ghost use Rattle.serde_json.specs.Data.{string};
 ghost use Rattle.symbols_ast.specs.Ids.{id_view};
-ghost use Rattle.symbols_nodes.specs.References.{SymbolDependency, id as by_id, qualified_id};
-ghost use Rattle.symbols_nodes.specs.References.{import_type, reference_view, dependency_view};
+ghost use Rattle.symbols_nodes.specs.References.{NamespacedReference, id as by_id, qualified_id};
+ghost use Rattle.symbols_nodes.specs.References.{import_type, reference_view, namespaced_reference_view};
 ghost use Rattle.symbols_queries.specs.AnswerViews.{deps_view};
-ghost use Rattle.symq_core.specs.AnswerData.{reference_data, reference_namespace_str};
-ghost use Rattle.symq_core.specs.AnswerData.{dependency_data, dependencies_data};
+ghost use Rattle.symq_core.specs.AnswerData.{reference_json, reference_namespace_str};
+ghost use Rattle.symq_core.specs.AnswerData.{namespaced_reference_json, references_of_decl_json};
 ghost use Rattle.symq_core.specs.inner.JsonWriting.{AppendsValueTokensIfOk};
 
 use crate::write_json::{WriteJson, write_items};
@@ -21,7 +21,7 @@ use symbols_nodes::deps::{ReferenceNamespace, SymbolNodeDep};
 /// Writes a reference to a name with its scope.
 fn write_id(out: &mut Writer, id: &Id) -> Result<(), AllocError>
     ensures { AppendsValueTokensIfOk result out.old out.new
-        (reference_data (by_id (id_view id.now))) }
+        (reference_json (by_id (id_view id.now))) }
 {
     out.begin_array()?;
     out.string("id")?;
@@ -46,7 +46,7 @@ impl WriteJson for CowStr<'_> {
 /// Writes a reference to a name with its scope and the parts after it.
 fn write_qualified_id(out: &mut Writer, id: &Id, parts: &[CowStr<'_>]) -> Result<(), AllocError>
     ensures { AppendsValueTokensIfOk result out.old out.new
-        (reference_data (qualified_id (id_view id.now) (map cow_str_bytes parts.now))) }
+        (reference_json (qualified_id (id_view id.now) (map cow_str_bytes parts.now))) }
 {
     out.begin_array()?;
     out.string("qualified")?;
@@ -63,7 +63,7 @@ fn write_import_type(
     parts: &[CowStr<'_>],
 ) -> Result<(), AllocError>
     ensures { AppendsValueTokensIfOk result out.old out.new
-        (reference_data (import_type specifier_text.now (map cow_str_bytes parts.now))) }
+        (reference_json (import_type specifier_text.now (map cow_str_bytes parts.now))) }
 {
     out.begin_array()?;
     out.string("import")?;
@@ -75,7 +75,7 @@ fn write_import_type(
 /// Writes a reference.
 fn write_reference(out: &mut Writer, reference: &SymbolNodeDep<'_>) -> Result<(), AllocError>
     ensures { AppendsValueTokensIfOk result out.old out.new
-        (reference_data (reference_view reference.now)) }
+        (reference_json (reference_view reference.now)) }
 {
     match reference {
         SymbolNodeDep::Id(id) => write_id(out, id),
@@ -97,11 +97,11 @@ fn reference_namespace_str(namespace: ReferenceNamespace) -> &'static str
 
 /// Writes a dependency: a reference and its namespace.
 impl WriteJson for (SymbolNodeDep<'_>, ReferenceNamespace) {
-    ghost View = { SymbolDependency };
+    ghost View = { NamespacedReference };
 
-    ghost view = { dependency_view };
+    ghost view = { namespaced_reference_view };
 
-    ghost value = { dependency_data };
+    ghost value = { namespaced_reference_json };
 
     fn write_json(&self, out: &mut Writer) -> Result<(), AllocError> {
         let (reference, namespace) = self;
@@ -114,11 +114,11 @@ impl WriteJson for (SymbolNodeDep<'_>, ReferenceNamespace) {
 
 /// Writes the dependencies of a declaration.
 impl WriteJson for Vec<(SymbolNodeDep<'_>, ReferenceNamespace)> {
-    ghost View = { List SymbolDependency };
+    ghost View = { List NamespacedReference };
 
     ghost view = { deps_view };
 
-    ghost value = { dependencies_data };
+    ghost value = { references_of_decl_json };
 
     fn write_json(&self, out: &mut Writer) -> Result<(), AllocError> {
         write_items(out, self.as_slice())

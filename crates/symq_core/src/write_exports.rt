@@ -6,8 +6,8 @@ ghost use Rattle.symbols_exports.specs.ExportViews.{ExportView, StarStatementVie
 ghost use Rattle.symbols_answers.specs.Answers.{answer_exports};
 ghost use Rattle.symbols_queries.specs.AnswerViews.{star_statement_by_specifier_view, export_view};
 ghost use Rattle.symbols_queries.specs.AnswerViews.{shared_names_view};
-ghost use Rattle.symq_core.specs.AnswerData.{star_statement_data, star_statements_data};
-ghost use Rattle.symq_core.specs.AnswerData.{export_data, with_shared_member, answer_data};
+ghost use Rattle.symq_core.specs.AnswerData.{star_statement_json, star_statements_json};
+ghost use Rattle.symq_core.specs.AnswerData.{export_json, with_shared_member, answer_json};
 ghost use Rattle.symq_core.specs.inner.JsonWriting.{AppendsValueTokensIfOk, AppendsTokensIfOk};
 ghost use Rattle.symq_core.specs.inner.JsonWriting.{remaining_member_tokens};
 
@@ -22,7 +22,7 @@ impl WriteJson for StarStatementBySpecifier<'_> {
 
     ghost view = { star_statement_by_specifier_view };
 
-    ghost value = { star_statement_data };
+    ghost value = { star_statement_json };
 
     #[inline(always)]
     fn write_json(&self, out: &mut Writer) -> Result<(), AllocError> {
@@ -40,7 +40,7 @@ impl WriteJson for ExportBySpecifier<'_> {
 
     ghost view = { export_view };
 
-    ghost value = { export_data };
+    ghost value = { export_json };
 
     fn write_json(&self, out: &mut Writer) -> Result<(), AllocError> {
         out.begin_object()?;
@@ -59,7 +59,7 @@ fn end_unresolved(
     unresolved: &[StarStatementBySpecifier<'_>],
 ) -> Result<(), AllocError>
     ensures { AppendsTokensIfOk result out.old out.new (remaining_member_tokens (member (codes "unresolved")
-        (star_statements_data (map star_statement_by_specifier_view unresolved.now)) no_members)) }
+        (star_statements_json (map star_statement_by_specifier_view unresolved.now)) no_members)) }
 {
     out.key("unresolved")?;
     write_items(out, unresolved)?;
@@ -72,7 +72,7 @@ fn end_exports(out: &mut Writer, named: &ExportsBySpecifier<'_>) -> Result<(), A
     ensures { AppendsTokensIfOk result out.old out.new
         (remaining_member_tokens (with_shared_member (option_map shared_names_view named.now.shared)
         (member (codes "unresolved")
-        (star_statements_data (map star_statement_by_specifier_view named.now.unresolved.items))
+        (star_statements_json (map star_statement_by_specifier_view named.now.unresolved.items))
         no_members))) }
 {
     match &named.shared {
@@ -91,7 +91,7 @@ pub(crate) fn write_exports(
     named: &ExportsBySpecifier<'_>,
 ) -> Result<(), AllocError>
     ensures { AppendsValueTokensIfOk result out.old out.new
-        (answer_data (answer_exports (map export_view named.now.exports.items)
+        (answer_json (answer_exports (map export_view named.now.exports.items)
         (option_map shared_names_view named.now.shared)
         (map star_statement_by_specifier_view named.now.unresolved.items))) }
 {

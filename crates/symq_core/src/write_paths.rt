@@ -11,11 +11,11 @@ ghost use Rattle.symbols_queries.specs.AnswerViews.{unresolved_by_specifier_view
 ghost use Rattle.symbols_queries.specs.AnswerViews.{path_tree_view, path_forest_view};
 ghost use Rattle.symbols_queries.specs.AnswerViews.{path_end_view, dep_entry_view};
 ghost use Rattle.symbols_queries.specs.inner.AnswerViews.{path_link_view};
-ghost use Rattle.symq_core.specs.AnswerData.{answer_data};
-ghost use Rattle.symq_core.specs.PathData.{decl_data, definition_data, unresolved_reason_str};
-ghost use Rattle.symq_core.specs.PathData.{missing_name_or_specifier, optional_scope_member};
-ghost use Rattle.symq_core.specs.PathData.{unresolved_data, leaf_data, link_members_after_next};
-ghost use Rattle.symq_core.specs.PathData.{tree_data, forest_items, dep_entry_data};
+ghost use Rattle.symq_core.specs.AnswerData.{answer_json};
+ghost use Rattle.symq_core.specs.PathData.{decl_json, definition_json, unresolved_reason_str};
+ghost use Rattle.symq_core.specs.PathData.{unresolved_name_or_specifier, optional_scope_member};
+ghost use Rattle.symq_core.specs.PathData.{unresolved_json, leaf_json, link_members_after_next};
+ghost use Rattle.symq_core.specs.PathData.{path_tree_json, path_forest_json_items, dep_entry_json};
 ghost use Rattle.symq_core.specs.inner.JsonWriting.{AppendsTokensIfOk, AppendsValueTokensIfOk};
 ghost use Rattle.symq_core.specs.inner.JsonWriting.{remaining_member_tokens};
 ghost use Rattle.symq_core.specs.inner.JsonWriting.{remaining_item_tokens, star_member_tokens};
@@ -36,7 +36,7 @@ use symbols_queries::{
 fn write_decl(out: &mut Writer, decl: DeclRef) -> Result<(), AllocError>
     ensures { (specifier : List ℕ)
         → AppendsValueTokensIfOk result out.old out.new
-        (decl_data (decl_with_specifier specifier decl)) }
+        (decl_json (decl_with_specifier specifier decl)) }
 {
     out.begin_array()?;
     out.u64(u64::from(decl.symbol.number()))?;
@@ -61,7 +61,7 @@ fn write_definition(
     definition: &DefinitionBySpecifier<'_>,
 ) -> Result<(), AllocError>
     ensures { AppendsValueTokensIfOk result out.old out.new
-        (definition_data (definition_by_specifier_view definition.now)) }
+        (definition_json (definition_by_specifier_view definition.now)) }
 {
     out.begin_object()?;
     out.key("decl")?;
@@ -86,8 +86,8 @@ fn unresolved_reason_str(kind: &DefinitionUnresolvedKind) -> &'static str
 }
 
 /// Returns the name or specifier that isn't found.
-fn missing_name_or_specifier(kind: &DefinitionUnresolvedKind) -> &str
-    ensures { result.now ≡ missing_name_or_specifier (reason_view kind.now) }
+fn unresolved_name_or_specifier(kind: &DefinitionUnresolvedKind) -> &str
+    ensures { result.now ≡ unresolved_name_or_specifier (reason_view kind.now) }
 {
     match kind {
         DefinitionUnresolvedKind::Id(id) => id.name.as_str(),
@@ -114,21 +114,20 @@ fn write_unresolved(
     unresolved: &UnresolvedBySpecifier<'_>,
 ) -> Result<(), AllocError>
     ensures { AppendsValueTokensIfOk result out.old out.new
-        (unresolved_data (unresolved_by_specifier_view unresolved.now)) }
+        (unresolved_json (unresolved_by_specifier_view unresolved.now)) }
 {
     out.begin_object()?;
     add_text(out, "kind", unresolved_reason_str(&unresolved.kind))?;
     add_text(out, "module", unresolved.module)?;
-    add_text(out, "name", missing_name_or_specifier(&unresolved.kind))?;
+    add_text(out, "name", unresolved_name_or_specifier(&unresolved.kind))?;
     out.key("parts")?;
     write_items(out, unresolved.parts.as_slice())?;
     end_unresolved(out, &unresolved.kind)
 }
 
 /// Writes a path.
-#[cycle(paths)]
 fn write_path(out: &mut Writer, path: &PathBySpecifier<'_>) -> Result<(), AllocError>
-    ensures { AppendsValueTokensIfOk result out.old out.new (tree_data (path_tree_view path.now)) }
+    ensures { AppendsValueTokensIfOk result out.old out.new (path_tree_json (path_tree_view path.now)) }
 {
     match path {
         PathBySpecifier::Link(link) => write_link(out, link),
@@ -137,21 +136,52 @@ fn write_path(out: &mut Writer, path: &PathBySpecifier<'_>) -> Result<(), AllocE
     }
 }
 
-/// Writes a link with the paths after it.
-#[cycle(paths)]
-fn write_link(out: &mut Writer, link: &PathLinkBySpecifier<'_>) -> Result<(), AllocError>
-    ensures { AppendsValueTokensIfOk result out.old out.new (tree_data (path_link_view link.now)) }
+/// A link whose next paths are being written, and those of them that are still to be written.
+#[derive(Drop)]
+struct OpenLink<'p, 'a> {
+    link: &'p PathLinkBySpecifier<'a>,
+    rest: &'p [PathBySpecifier<'a>],
+}
+
+/// Writes a link with the paths after it. The innermost of the open links is the last of `links`.
+fn write_link<'p, 'a>(out: &mut Writer, link: &'p PathLinkBySpecifier<'a>) -> Result<(), AllocError>
+    ensures { AppendsValueTokensIfOk result out.old out.new (path_tree_json (path_link_view link.now)) }
 {
+    let mut links: Vec<OpenLink<'p, 'a>> = Vec::new(*link.next.allocator());
     begin_link(out, link.module, link.decl)?;
-    end_paths(out, &link.next)?;
-    end_link(out, link.parts.as_slice(), link.symbol)
+    links.push(OpenLink {
+        link,
+        rest: link.next.as_slice(),
+    })?;
+    while let Some(innermost) = links.pop() {
+        let Some((path, rest)) = innermost.rest.split_first() else {
+            out.end_array()?;
+            end_link(out, innermost.link.parts.as_slice(), innermost.link.symbol)?;
+            continue;
+        };
+        links.push(OpenLink {
+            link: innermost.link,
+            rest,
+        })?;
+        match path {
+            PathBySpecifier::Definition(definition) => write_definition(out, definition)?,
+            PathBySpecifier::Unresolved(unresolved) => write_unresolved(out, unresolved)?,
+            PathBySpecifier::Link(next) => {
+                begin_link(out, next.module, next.decl)?;
+                links.push(OpenLink {
+                    link: next,
+                    rest: next.next.as_slice(),
+                })?;
+            }
+        }
+    }
+    Ok(())
 }
 
 /// Writes paths as the items of an open array, and ends the array.
-#[cycle(paths)]
 fn end_paths(out: &mut Writer, paths: &Vec<PathBySpecifier<'_>>) -> Result<(), AllocError>
     ensures { AppendsTokensIfOk result out.old out.new
-        (remaining_item_tokens (forest_items (path_forest_view paths.now.items))) }
+        (remaining_item_tokens (path_forest_json_items (path_forest_view paths.now.items))) }
 {
     for path in paths {
         write_path(out, path)?;
@@ -189,7 +219,7 @@ pub(crate) fn write_paths(
     paths: &Vec<PathBySpecifier<'_>>,
 ) -> Result<(), AllocError>
     ensures { AppendsValueTokensIfOk result out.old out.new
-        (answer_data (answer_paths (path_forest_view paths.now.items))) }
+        (answer_json (answer_paths (path_forest_view paths.now.items))) }
 {
     out.begin_object()?;
     out.key("paths")?;
@@ -203,7 +233,7 @@ impl WriteJson for DefinitionBySpecifier<'_> {
 
     ghost view = { definition_by_specifier_view };
 
-    ghost value = { definition_data };
+    ghost value = { definition_json };
 
     fn write_json(&self, out: &mut Writer) -> Result<(), AllocError> {
         write_definition(out, self)
@@ -216,7 +246,7 @@ impl WriteJson for PathEndBySpecifier<'_> {
 
     ghost view = { path_end_view };
 
-    ghost value = { leaf_data };
+    ghost value = { leaf_json };
 
     fn write_json(&self, out: &mut Writer) -> Result<(), AllocError> {
         match self {
@@ -232,7 +262,7 @@ impl WriteJson for DepEntryBySpecifier<'_> {
 
     ghost view = { dep_entry_view };
 
-    ghost value = { dep_entry_data };
+    ghost value = { dep_entry_json };
 
     fn write_json(&self, out: &mut Writer) -> Result<(), AllocError> {
         match self {

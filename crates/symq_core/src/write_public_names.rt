@@ -2,7 +2,7 @@
 
 ghost use Rattle.std.specs.Prelude.{option_map, string_bytes};
 ghost use Rattle.symbols_exports.specs.PublicNames.{PublicNameView, public_name_view};
-ghost use Rattle.symq_core.specs.AnswerData.{optional_member_name_items, public_name_data};
+ghost use Rattle.symq_core.specs.AnswerData.{items_of_optional_member_name, public_name_json};
 ghost use Rattle.symq_core.specs.inner.JsonWriting.{AppendsTokensIfOk, remaining_item_tokens};
 
 use crate::write_json::WriteJson;
@@ -13,7 +13,7 @@ use symbols_exports::PublicName;
 /// Writes the member of a name, if it has one, and ends the array.
 fn end_name(out: &mut Writer, member: &Option<String>) -> Result<(), AllocError>
     ensures { AppendsTokensIfOk result out.old out.new
-        (remaining_item_tokens (optional_member_name_items (option_map string_bytes member.now))) }
+        (remaining_item_tokens (items_of_optional_member_name (option_map string_bytes member.now))) }
 {
     if let Some(member) = member {
         out.string(member.as_str())?;
@@ -28,7 +28,7 @@ impl WriteJson for PublicName {
 
     ghost view = { public_name_view };
 
-    ghost value = { public_name_data };
+    ghost value = { public_name_json };
 
     fn write_json(&self, out: &mut Writer) -> Result<(), AllocError> {
         out.begin_array()?;

@@ -4,7 +4,7 @@ ghost use Rattle.std.specs.Prelude.{[]};
 ghost use Rattle.symbols_exports.specs.SharedNames.{NameWithExporters};
 ghost use Rattle.symbols_exports.specs.ExportViews.{ExportView};
 ghost use Rattle.symbols_queries.specs.AnswerViews.{exporter_view, shared_name_view};
-ghost use Rattle.symq_core.specs.AnswerData.{exporter_data, shared_name_data};
+ghost use Rattle.symq_core.specs.AnswerData.{exporter_json, shared_name_json};
 
 use crate::write_json::{WriteJson, add_number, add_text, write_items};
 use json::Writer;
@@ -18,7 +18,7 @@ impl WriteJson for ExporterBySpecifier<'_> {
 
     ghost view = { exporter_view [] };
 
-    ghost value = { exporter_data };
+    ghost value = { exporter_json };
 
     fn write_json(&self, out: &mut Writer) -> Result<(), AllocError> {
         out.begin_object()?;
@@ -36,7 +36,7 @@ impl WriteJson for SharedNameBySpecifier<'_> {
 
     ghost view = { shared_name_view };
 
-    ghost value = { shared_name_data };
+    ghost value = { shared_name_json };
 
     fn write_json(&self, out: &mut Writer) -> Result<(), AllocError> {
         out.begin_object()?;

@@ -19,7 +19,7 @@ use Rattle.symq_reader.specs.GraphText.{json_of_bytes}
 use Rattle.symq_reader.specs.inner.ListTexts.{IsAfterComma, IsListTailText, IsListText, IsValidListTail}
 use Rattle.symq_reader.specs.JsonData.{number_or_minus_one, json_data, json_items_data}
 use Rattle.symq_reader.specs.inner.JsonData.{fits, items_fit}
-use Rattle.symq_reader.specs.QueryLists.{list_tail_items, query_list_data}
+use Rattle.symq_reader.specs.QueryLists.{list_tail_items, query_list_json}
 use Rattle.symq_reader.specs.declared.query_list.ListTail.{ListTail}
 use Rattle.symq_reader.specs.declared.query_list.ListTail.TheVariants.{Nothing, Number, NumberAndText}
 use Rattle.symq_reader.specs.declared.query_list.QueryList.{QueryList}
@@ -137,17 +137,17 @@ utf8_list bytes l first second h is =
 -- ---- what `serde_json` reads of the text
 
 list_read : (bytes : List ℕ) (l : QueryList) → IsUtf8 l.first.now → IsUtf8 l.second.now → IsValidListTail l.tail → IsListText bytes l
-    → json_of_bytes bytes ≡ Some (query_list_data l)
+    → json_of_bytes bytes ≡ Some (query_list_json l)
 list_read bytes l first second h is =
     let utf8 = utf8_list bytes l first second h is in
     let all : value 127 (tokens bytes) ≡ Some (list_value l, []) = ap (value 127) (list_viewed bytes l h is) ∙ after_read l.first.now l.second.now l.tail in
     let fit : fits (list_value l) ≡ true = after_fit l.tail h in
-    let same : json_data (list_value l) ≡ query_list_data l =
+    let same : json_data (list_value l) ≡ query_list_json l =
     ap (λ ds. array (item (string l.first.now) (item (string l.second.now) ds))) (after_unescaped l.tail h) in
     fitting_value bytes bytes (list_value l) utf8 refl all fit ∙ ap Some same
 
 pub any_list_read : (bytes : List ℕ) (found : Option QueryList) → IfSome found (IsListText bytes)
-    → IfSome found (λ l. IsUtf8 l.first.now × IsUtf8 l.second.now × IsValidListTail l.tail) → IfSome found (λ l. json_of_bytes bytes ≡ Some (query_list_data l))
+    → IfSome found (λ l. IsUtf8 l.first.now × IsUtf8 l.second.now × IsValidListTail l.tail) → IfSome found (λ l. json_of_bytes bytes ≡ Some (query_list_json l))
 any_list_read bytes None is sound = tt
 any_list_read bytes (Some l) is sound = list_read bytes l sound.0 sound.1 sound.2 is
 

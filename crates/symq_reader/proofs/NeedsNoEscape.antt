@@ -7,7 +7,7 @@ use Rattle.serde_json.specs.Read.{number_of, of_json, of_items, of_members}
 use Rattle.serde_json.specs.Find.{as_u64}
 use Rattle.std.specs.Ordering.{match_ordering}
 use Rattle.std.specs.Cmp.Lexicographic.{slice_cmp}
-use Rattle.symq_reader.specs.Lists.{has_no_object, items_have_no_object}
+use Rattle.symq_reader.specs.Lists.{has_no_object_and_whole_numbers, items_have_no_object_and_whole_numbers}
 use Rattle.symq_reader.specs.Numbers.{has_whole_numbers, items_have_whole_numbers, members_have_whole_numbers}
 use Rattle.symq_reader.specs.JsonData.{number_or_minus_one, json_data, json_items_data, json_members_data}
 use Rattle.symq_reader.specs.inner.JsonData.{fits, items_fit, members_fit}
@@ -132,7 +132,7 @@ mutual
 -- ---- the numbers of a value without objects fit if those of its data do
 
 mutual
-  pub fits-lists : (j : json.Json) → has_no_object (json_data j) ≡ true → fits j ≡ true
+  pub fits-lists : (j : json.Json) → has_no_object_and_whole_numbers (json_data j) ≡ true → fits j ≡ true
   fits-lists json.null e = refl
   fits-lists (json.boolean b) e = refl
   fits-lists (json.number s) e = e
@@ -140,8 +140,8 @@ mutual
   fits-lists (json.array js) e = items_fit-lists js e
   fits-lists (json.object ms) e = absurd (cc)
 
-  items_fit-lists : (js : json.Items) → items_have_no_object (json_items_data js) ≡ true → items_fit js ≡ true
+  items_fit-lists : (js : json.Items) → items_have_no_object_and_whole_numbers (json_items_data js) ≡ true → items_fit js ≡ true
   items_fit-lists json.no_items e = refl
   items_fit-lists (json.item j js) e =
-      let h = both (has_no_object (json_data j)) (items_have_no_object (json_items_data js)) e in
+      let h = both (has_no_object_and_whole_numbers (json_data j)) (items_have_no_object_and_whole_numbers (json_items_data js)) e in
       both_of (fits j) (items_fit js) (fits-lists j h.0) (items_fit-lists js h.1)

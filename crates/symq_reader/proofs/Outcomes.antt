@@ -8,7 +8,7 @@ use Rattle.symbols_ast.specs.declared.graph.raw.RawGraph.{RawGraph}
 use Rattle.symq_reader.specs.declared.faults.FormatFault.{FormatFault}
 use Rattle.symq_reader.specs.declared.faults.FormatFault.TheVariants.{OutOfMemory, NotJson, BadForm}
 use Rattle.symq_reader.specs.inner.Reading.{IsReadResult}
-use Rattle.symq_reader.specs.GraphText.{json_of_bytes, graph_shape_of_data, graph_shape, read_outcome_of_data, ok_or_fault, IsReadOutcome}
+use Rattle.symq_reader.specs.GraphText.{json_of_bytes, raw_graph_of_json, raw_graph_view, read_outcome_of_json, ok_or_fault, IsReadOutcome}
 
 -- the value that is read from a text is the value of its bytes
 pub json_of_bytes-read : (bytes : List ℕ) (d : Data) → IsUtf8 bytes → read bytes ≡ Some d → json_of_bytes bytes ≡ Some d
@@ -25,9 +25,9 @@ unfolding json_of_bytes
 json_of_bytes-refused bytes refused = none_if bytes _ refl refused
 
 -- the graph of the value, or its fault, is the outcome
-pub read_outcome_of_data-read : (r : Result RawGraph FormatFault) (d : Data) → IsReadResult graph_shape r (graph_shape_of_data d)
-    → IsReadOutcome r (read_outcome_of_data (Some d))
-read_outcome_of_data-read (Ok graph) d is = ap (ok_or_fault BadForm) is
-read_outcome_of_data-read (Err OutOfMemory) d is = tt
-read_outcome_of_data-read (Err NotJson) d is = absurd is
-read_outcome_of_data-read (Err BadForm) d is = ap (ok_or_fault BadForm) is
+pub read_outcome_of_json-read : (r : Result RawGraph FormatFault) (d : Data) → IsReadResult raw_graph_view r (raw_graph_of_json d)
+    → IsReadOutcome r (read_outcome_of_json (Some d))
+read_outcome_of_json-read (Ok graph) d is = ap (ok_or_fault BadForm) is
+read_outcome_of_json-read (Err OutOfMemory) d is = tt
+read_outcome_of_json-read (Err NotJson) d is = absurd is
+read_outcome_of_json-read (Err BadForm) d is = ap (ok_or_fault BadForm) is

@@ -17,7 +17,7 @@ use Rattle.serde_json.specs.Data.{Data}
 use Rattle.symbols_ast.specs.declared.graph.raw.RawModule.{RawModule}
 use Rattle.symq_reader.specs.JsonData.{json_data, json_items_data}
 use Rattle.symq_reader.specs.inner.JsonData.{fits, items_fit}
-use Rattle.symq_reader.specs.GraphText.{as_module, module_shape, ModuleShape, GraphShape, require_object, graph_fields, read_outcome_of_bytes}
+use Rattle.symq_reader.specs.GraphText.{as_module, raw_module_view, RawModuleView, RawGraphView, require_object, graph_of_json_fields, read_outcome_of_bytes}
 use Rattle.symq_reader.specs.inner.Streams.{items_joined, ConsumesItems, ReadsItems, ReadsMembers, SkipsToKey, list_in_optional_data}
 use Rattle.symq_reader.specs.inner.Pieces.{graph_text_opening, IsPieceCut, tokens_of_values, ConsumesValues, AreModulesAppended, ConsumesModule, ReadsPiece}
 use Rattle.symq_reader.specs.inner.Pieces.{ReadsPieces, ReadsModulesToEnd}
@@ -101,8 +101,8 @@ one_more old new done before mid after took more =
       fit = item_fits done took.reads.at more.fit took.reads.fit;
       modules = more.modules ++ m ∷ [];
       pushed = took.pushed ∙ ap (λ ms. ms ++ m ∷ []) more.pushed ∙ append_assoc before more.modules (m ∷ []);
-      are = item_of_form as_module done took.reads.at (map module_shape more.modules) (module_shape m) more.are took.reads.is
-          ∙ ap Some (sym (map-append module_shape more.modules (m ∷ [])));
+      are = item_of_form as_module done took.reads.at (map raw_module_view more.modules) (raw_module_view m) more.are took.reads.is
+          ∙ ap Some (sym (map-append raw_module_view more.modules (m ∷ [])));
     }
 
 -- ---- values after values
@@ -145,8 +145,8 @@ more_joined a b before mid after first second = record {
   fit = joined_fit a b first.fit second.fit;
   modules = first.modules ++ second.modules;
   pushed = second.pushed ∙ ap (λ ms. ms ++ second.modules) first.pushed ∙ append_assoc before first.modules second.modules;
-  are = joined_form as_module a b (map module_shape first.modules) (map module_shape second.modules) first.are second.are
-      ∙ ap Some (sym (map-append module_shape first.modules second.modules));
+  are = joined_form as_module a b (map raw_module_view first.modules) (map raw_module_view second.modules) first.are second.are
+      ∙ ap Some (sym (map-append raw_module_view first.modules second.modules));
 }
 
 -- ---- a text and its pieces
@@ -201,9 +201,15 @@ cut_shorter text piece rest cut = omega (arith, ap length cut.joined, length-app
 -- ---- a list of modules
 
 pub more_items : (old new : List Token) (after : List RawModule) → ReadsModulesToEnd old new [] after
-    → ReadsItems 125 old new as_module (map module_shape after)
+    → ReadsItems 125 old new as_module (map raw_module_view after)
 more_items old new after reads =
-    record { all = reads.values; read = reads.read; fit = reads.more.fit; are = reads.more.are ∙ ap (λ ms. Some (map module_shape ms)) (sym reads.more.pushed) }
+    record {
+      all = reads.values;
+      read = reads.read;
+      fit = reads.more.fit;
+      are = reads.more.are ∙ ap (λ ms. Some (map raw_module_view ms))
+          (sym reads.more.pushed);
+    }
 
 pub whole_list : (text rest : List ℕ) (new : List Token) (mid after : List RawModule) → ReadsPieces text rest [] mid
     → ReadsModulesToEnd (tokens rest) new mid after
@@ -219,9 +225,9 @@ unfolding lex punctuate content
 opened list = refl
 
 -- a graph whose first member is its modules
-graph_members : (old s new : List Token) (after : Members) (found : List ModuleShape) (g : GraphShape) → ReadsItems 125 old s as_module found
-    → SkipsToKey 126 s (codes "modules") false new after → require_object graph_fields (json_data (object after)) ≡ Some g
-    → ReadsMembers 126 (token.key (codes "modules") ∷ token.begin_array ∷ old) new (require_object graph_fields) (with_modules found g)
+graph_members : (old s new : List Token) (after : Members) (found : List RawModuleView) (g : RawGraphView) → ReadsItems 125 old s as_module found
+    → SkipsToKey 126 s (codes "modules") false new after → require_object graph_of_json_fields (json_data (object after)) ≡ Some g
+    → ReadsMembers 126 (token.key (codes "modules") ∷ token.begin_array ∷ old) new (require_object graph_of_json_fields) (with_modules found g)
 graph_members old s new after found g list passed is =
     let key = codes "modules" in
     let tail = token.begin_array ∷ old in
@@ -234,16 +240,17 @@ graph_members old s new after found g list passed is =
     refl passed refl in
     record { all = a.1.all; read = a.1.read; fit = a.1.fit; is = graph_whole 126 start new a.0 after a.1 g found is a.2 }
 
-pub pieces_outcome : (list rest : List ℕ) (s new : List Token) (after : Members) (mid found : List RawModule) (g : GraphShape) → ReadsPieces list rest [] mid
+pub pieces_outcome : (list rest : List ℕ) (s new : List Token) (after : Members) (mid found : List RawModule) (g : RawGraphView) → ReadsPieces list rest [] mid
     → IsUtf8 rest → ReadsModulesToEnd (tokens rest) s mid found → SkipsToKey 126 s (codes "modules") false new after
-    → require_object graph_fields (json_data (object after)) ≡ Some g → new ≡ []
-    → read_outcome_of_bytes (graph_text_opening ++ list) ≡ Ok (with_modules (map module_shape found) g)
+    → require_object graph_of_json_fields (json_data (object after)) ≡ Some g → new ≡ []
+    → read_outcome_of_bytes (graph_text_opening ++ list) ≡ Ok (with_modules (map raw_module_view found) g)
 pieces_outcome list rest s new after mid found g pieces utf8 last passed is over =
     let text = graph_text_opening ++ list in
     let items = more_items (tokens list) s found (whole_list list rest s mid found pieces last) in
-    let members = graph_members (tokens list) s new after (map module_shape found) g items passed is in
-    let shape = with_modules (map module_shape found) g in
-    let reads = object_read (require_object graph_fields) 127 126 (tokens text) (token.key (codes "modules") ∷ token.begin_array ∷ tokens list) new shape
+    let members = graph_members (tokens list) s new after (map raw_module_view found) g items passed is in
+    let shape = with_modules (map raw_module_view found) g in
+    let reads = object_read (require_object graph_of_json_fields) 127 126 (tokens text) (token.key (codes "modules") ∷ token.begin_array
+    ∷ tokens list) new shape
     (lit< tt)
     refl (opened list) members in
     let list_utf8 = subst IsUtf8 (sym pieces.split) (IsUtf8-append pieces.front rest pieces.utf8 utf8) in

@@ -12,29 +12,29 @@ use Rattle.symbols_ast.specs.declared.tree.kinds.Ty.{Ty}
 use Rattle.symbols_ast.specs.declared.tree.kinds.Expr.{Expr}
 use Rattle.symbols_ast.specs.declared.tree.kinds.Pat.{Pat}
 use Rattle.symbols_ast.specs.declared.tree.kinds.Kind.{Kind}
-use Rattle.symq_reader.specs.Kinds.{FieldValue, holds_child, holds_optional_child, holds_children, holds_text, holds_optional_text, holds_flag, holds_identifier, holds_accessibility, holds_method_kind, kind_name_by_text}
+use Rattle.symq_reader.specs.Kinds.{JsonFieldValue, holds_child, holds_optional_child, holds_children, holds_text, holds_optional_text, holds_flag, holds_identifier, holds_accessibility, holds_method_kind, kind_name_by_text}
 use Rattle.symq_reader.specs.KindTable.{item_kind_names_by_text, decl_kind_names_by_text, member_kind_names_by_text, ty_kind_names_by_text, expr_kind_names_by_text, pat_kind_names_by_text}
-use Rattle.symq_reader.specs.KindShapes.{KindShape, read_if_kind_named, identifier_view}
+use Rattle.symq_reader.specs.KindShapes.{KindNameAndFieldValues, read_if_kind_named, identifier_view}
 
-unfoldable pub read_item : List ℕ → Data → Option (Option KindShape)
+unfoldable pub read_item : List ℕ → Data → Option (Option KindNameAndFieldValues)
 read_item t d = read_if_kind_named (kind_name_by_text item_kind_names_by_text t) d
 
-unfoldable pub read_decl : List ℕ → Data → Option (Option KindShape)
+unfoldable pub read_decl : List ℕ → Data → Option (Option KindNameAndFieldValues)
 read_decl t d = read_if_kind_named (kind_name_by_text decl_kind_names_by_text t) d
 
-unfoldable pub read_member : List ℕ → Data → Option (Option KindShape)
+unfoldable pub read_member : List ℕ → Data → Option (Option KindNameAndFieldValues)
 read_member t d = read_if_kind_named (kind_name_by_text member_kind_names_by_text t) d
 
-unfoldable pub read_ty : List ℕ → Data → Option (Option KindShape)
+unfoldable pub read_ty : List ℕ → Data → Option (Option KindNameAndFieldValues)
 read_ty t d = read_if_kind_named (kind_name_by_text ty_kind_names_by_text t) d
 
-unfoldable pub read_expr : List ℕ → Data → Option (Option KindShape)
+unfoldable pub read_expr : List ℕ → Data → Option (Option KindNameAndFieldValues)
 read_expr t d = read_if_kind_named (kind_name_by_text expr_kind_names_by_text t) d
 
-unfoldable pub read_pat : List ℕ → Data → Option (Option KindShape)
+unfoldable pub read_pat : List ℕ → Data → Option (Option KindNameAndFieldValues)
 read_pat t d = read_if_kind_named (kind_name_by_text pat_kind_names_by_text t) d
 
-abbrev pub item_field_values : Item → List (List ℕ × FieldValue)
+abbrev pub item_field_values : Item → List (List ℕ × JsonFieldValue)
 item_field_values (Item.Program body) = (codes "body", holds_children body.items) ∷ []
 item_field_values (Item.Import specifiers src) = (codes "specifiers", holds_children specifiers.items) ∷ (codes "src", holds_text (string_bytes src)) ∷ []
 item_field_values (Item.ImportNamed local imported) = (codes "local", holds_child local) ∷ (codes "imported", holds_optional_text (option_map string_bytes imported)) ∷ []
@@ -52,7 +52,7 @@ item_field_values (Item.ExportAll src) = (codes "src", holds_text (string_bytes 
 item_field_values (Item.TsImportEqualsDecl is_export id entity external) = (codes "is_export", holds_flag is_export) ∷ (codes "id", holds_child id) ∷ (codes "entity", holds_optional_child entity) ∷ (codes "external", holds_optional_text (option_map string_bytes external)) ∷ []
 item_field_values (Item.ExprStmt expr) = (codes "expr", holds_child expr) ∷ []
 
-abbrev pub decl_field_values : Decl → List (List ℕ × FieldValue)
+abbrev pub decl_field_values : Decl → List (List ℕ × JsonFieldValue)
 decl_field_values (Decl.ClassDecl ident class) = (codes "ident", holds_child ident) ∷ (codes "class", holds_child class) ∷ []
 decl_field_values (Decl.ClassExpr ident class) = (codes "ident", holds_optional_child ident) ∷ (codes "class", holds_child class) ∷ []
 decl_field_values (Decl.Class type_params super_class super_type_params implements body) = (codes "type_params", holds_optional_child type_params) ∷ (codes "super_class", holds_optional_child super_class) ∷ (codes "super_type_params", holds_optional_child super_type_params) ∷ (codes "implements", holds_children implements.items) ∷ (codes "body", holds_children body.items) ∷ []
@@ -70,7 +70,7 @@ decl_field_values (Decl.TsModuleDecl id declare body) = (codes "id", holds_child
 decl_field_values (Decl.TsNamespaceDecl id body) = (codes "id", holds_child id) ∷ (codes "body", holds_child body) ∷ []
 decl_field_values (Decl.TsModuleBlock body) = (codes "body", holds_children body.items) ∷ []
 
-abbrev pub member_field_values : Member → List (List ℕ × FieldValue)
+abbrev pub member_field_values : Member → List (List ℕ × JsonFieldValue)
 member_field_values (Member.Constructor params body accessibility) = (codes "params", holds_children params.items) ∷ (codes "body", holds_optional_child body) ∷ (codes "accessibility", holds_accessibility accessibility) ∷ []
 member_field_values (Member.TsParamProp param accessibility) = (codes "param", holds_child param) ∷ (codes "accessibility", holds_accessibility accessibility) ∷ []
 member_field_values (Member.ClassMethod key function kind is_static accessibility) = (codes "key", holds_child key) ∷ (codes "function", holds_child function) ∷ (codes "method_kind", holds_method_kind kind) ∷ (codes "is_static", holds_flag is_static) ∷ (codes "accessibility", holds_accessibility accessibility) ∷ []
@@ -84,7 +84,7 @@ member_field_values (Member.TsGetterSignature key computed type_ann) = (codes "k
 member_field_values (Member.TsSetterSignature key computed param) = (codes "key", holds_child key) ∷ (codes "computed", holds_flag computed) ∷ (codes "param", holds_child param) ∷ []
 member_field_values (Member.TsMethodSignature key computed type_params params type_ann) = (codes "key", holds_child key) ∷ (codes "computed", holds_flag computed) ∷ (codes "type_params", holds_optional_child type_params) ∷ (codes "params", holds_children params.items) ∷ (codes "type_ann", holds_optional_child type_ann) ∷ []
 
-abbrev pub ty_field_values : Ty → List (List ℕ × FieldValue)
+abbrev pub ty_field_values : Ty → List (List ℕ × JsonFieldValue)
 ty_field_values (Ty.TsTypeParamDecl params) = (codes "params", holds_children params.items) ∷ []
 ty_field_values (Ty.TsTypeParam constraint default) = (codes "constraint", holds_optional_child constraint) ∷ (codes "default", holds_optional_child default) ∷ []
 ty_field_values (Ty.TsTypeParamInstantiation params) = (codes "params", holds_children params.items) ∷ []
@@ -97,7 +97,7 @@ ty_field_values (Ty.TsImportType arg qualifier type_args) = (codes "arg", holds_
 ty_field_values (Ty.TsTupleElement label ty) = (codes "label", holds_optional_child label) ∷ (codes "ty", holds_child ty) ∷ []
 ty_field_values (Ty.TsQualifiedName left right) = (codes "left", holds_child left) ∷ (codes "right", holds_text (string_bytes right)) ∷ []
 
-abbrev pub expr_field_values : Expr → List (List ℕ × FieldValue)
+abbrev pub expr_field_values : Expr → List (List ℕ × JsonFieldValue)
 expr_field_values (Expr.Ident sym) = (codes "sym", holds_identifier (identifier_view sym)) ∷ []
 expr_field_values (Expr.Member obj prop) = (codes "obj", holds_child obj) ∷ (codes "prop", holds_child prop) ∷ []
 expr_field_values (Expr.IdentName name) = (codes "name", holds_text (string_bytes name)) ∷ []
@@ -109,7 +109,7 @@ expr_field_values (Expr.Computed expr) = (codes "expr", holds_child expr) ∷ []
 expr_field_values (Expr.Assign plain left right) = (codes "plain", holds_flag plain) ∷ (codes "left", holds_child left) ∷ (codes "right", holds_child right) ∷ []
 expr_field_values (Expr.Arrow type_params params return_type is_block body) = (codes "type_params", holds_optional_child type_params) ∷ (codes "params", holds_children params.items) ∷ (codes "return_type", holds_optional_child return_type) ∷ (codes "is_block", holds_flag is_block) ∷ (codes "body", holds_child body) ∷ []
 
-abbrev pub pat_field_values : Pat → List (List ℕ × FieldValue)
+abbrev pub pat_field_values : Pat → List (List ℕ × JsonFieldValue)
 pat_field_values (Pat.BindingIdent sym type_ann) = (codes "sym", holds_identifier (identifier_view sym)) ∷ (codes "type_ann", holds_optional_child type_ann) ∷ []
 pat_field_values (Pat.ArrayPat elems type_ann) = (codes "elems", holds_children elems.items) ∷ (codes "type_ann", holds_optional_child type_ann) ∷ []
 pat_field_values (Pat.ObjectPat props type_ann) = (codes "props", holds_children props.items) ∷ (codes "type_ann", holds_optional_child type_ann) ∷ []
@@ -121,28 +121,28 @@ pat_field_values (Pat.ExprPat expr) = (codes "expr", holds_child expr) ∷ []
 pat_field_values (Pat.Plain children) = (codes "children", holds_children children.items) ∷ []
 pat_field_values (Pat.Other children) = (codes "children", holds_children children.items) ∷ []
 
-abbrev pub item_shape : Item → KindShape
-item_shape k = record { name = item_kind_name k; slots = item_field_values k }
+abbrev pub item_name_and_field_values : Item → KindNameAndFieldValues
+item_name_and_field_values k = record { name = item_kind_name k; slots = item_field_values k }
 
-abbrev pub decl_shape : Decl → KindShape
-decl_shape k = record { name = decl_kind_name k; slots = decl_field_values k }
+abbrev pub decl_name_and_field_values : Decl → KindNameAndFieldValues
+decl_name_and_field_values k = record { name = decl_kind_name k; slots = decl_field_values k }
 
-abbrev pub member_shape : Member → KindShape
-member_shape k = record { name = member_kind_name k; slots = member_field_values k }
+abbrev pub member_name_and_field_values : Member → KindNameAndFieldValues
+member_name_and_field_values k = record { name = member_kind_name k; slots = member_field_values k }
 
-abbrev pub ty_shape : Ty → KindShape
-ty_shape k = record { name = ty_kind_name k; slots = ty_field_values k }
+abbrev pub ty_name_and_field_values : Ty → KindNameAndFieldValues
+ty_name_and_field_values k = record { name = ty_kind_name k; slots = ty_field_values k }
 
-abbrev pub expr_shape : Expr → KindShape
-expr_shape k = record { name = expr_kind_name k; slots = expr_field_values k }
+abbrev pub expr_name_and_field_values : Expr → KindNameAndFieldValues
+expr_name_and_field_values k = record { name = expr_kind_name k; slots = expr_field_values k }
 
-abbrev pub pat_shape : Pat → KindShape
-pat_shape k = record { name = pat_kind_name k; slots = pat_field_values k }
+abbrev pub pat_name_and_field_values : Pat → KindNameAndFieldValues
+pat_name_and_field_values k = record { name = pat_kind_name k; slots = pat_field_values k }
 
-abbrev pub kind_shape : Kind → KindShape
-kind_shape (Kind.Item k) = item_shape k
-kind_shape (Kind.Decl k) = decl_shape k
-kind_shape (Kind.Member k) = member_shape k
-kind_shape (Kind.Ty k) = ty_shape k
-kind_shape (Kind.Expr k) = expr_shape k
-kind_shape (Kind.Pat k) = pat_shape k
+abbrev pub kind_name_and_field_values : Kind → KindNameAndFieldValues
+kind_name_and_field_values (Kind.Item k) = item_name_and_field_values k
+kind_name_and_field_values (Kind.Decl k) = decl_name_and_field_values k
+kind_name_and_field_values (Kind.Member k) = member_name_and_field_values k
+kind_name_and_field_values (Kind.Ty k) = ty_name_and_field_values k
+kind_name_and_field_values (Kind.Expr k) = expr_name_and_field_values k
+kind_name_and_field_values (Kind.Pat k) = pat_name_and_field_values k

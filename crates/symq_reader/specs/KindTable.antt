@@ -5,9 +5,9 @@
 use Rattle.std.specs.Prelude.{ℕ, List, [], ◌∷◌, codes}
 use Rattle.symbols_ast.specs.declared.tree.names.KindName.{KindName}
 use Rattle.symbols_ast.specs.declared.tree.names.KindName.TheVariants as Name
-use Rattle.symq_reader.specs.Kinds.{FieldSort, child, optional_child, children, text, optional_text, flag, identifier, accessibility, method_kind}
+use Rattle.symq_reader.specs.Kinds.{JsonFieldSort, child, optional_child, children, text, optional_text, flag, identifier, accessibility, method_kind}
 
-abbrev pub json_fields_of_kind : KindName → List (List ℕ × FieldSort)
+abbrev pub json_fields_of_kind : KindName → List (List ℕ × JsonFieldSort)
 -- items of a module, their parts, and statements
 json_fields_of_kind Name.Program = (codes "body", children) ∷ []
 json_fields_of_kind Name.Import = (codes "specifiers", children) ∷ (codes "src", text) ∷ []

@@ -5,14 +5,14 @@ use Rattle.serde_json.specs.Find.{as_u64}
 
 -- there is no object in the value, and each of its numbers is whole and fits 64 bits
 abbrev mutual
-  pub has_no_object : Data → Bool
-  has_no_object null = true
-  has_no_object (boolean b) = true
-  has_no_object (number n) = is_some (as_u64 n)
-  has_no_object (string s) = true
-  has_no_object (array ds) = items_have_no_object ds
-  has_no_object (object ms) = false
+  pub has_no_object_and_whole_numbers : Data → Bool
+  has_no_object_and_whole_numbers null = true
+  has_no_object_and_whole_numbers (boolean b) = true
+  has_no_object_and_whole_numbers (number n) = is_some (as_u64 n)
+  has_no_object_and_whole_numbers (string s) = true
+  has_no_object_and_whole_numbers (array ds) = items_have_no_object_and_whole_numbers ds
+  has_no_object_and_whole_numbers (object ms) = false
 
-  pub items_have_no_object : Items → Bool
-  items_have_no_object no_items = true
-  items_have_no_object (item d ds) = has_no_object d && items_have_no_object ds
+  pub items_have_no_object_and_whole_numbers : Items → Bool
+  items_have_no_object_and_whole_numbers no_items = true
+  items_have_no_object_and_whole_numbers (item d ds) = has_no_object_and_whole_numbers d && items_have_no_object_and_whole_numbers ds

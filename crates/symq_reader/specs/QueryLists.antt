@@ -11,5 +11,5 @@ list_tail_items (Number n) = item (number (unsigned n)) no_items
 list_tail_items (NumberAndText n text) = item (number (unsigned n)) (item (string text.now) no_items)
 
 -- the list as a JSON value
-abbrev pub query_list_data : QueryList → Data
-query_list_data list = array (item (string list.first.now) (item (string list.second.now) (list_tail_items list.tail)))
+abbrev pub query_list_json : QueryList → Data
+query_list_json list = array (item (string list.first.now) (item (string list.second.now) (list_tail_items list.tail)))

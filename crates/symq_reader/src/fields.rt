@@ -8,9 +8,9 @@ ghost use Rattle.symq_reader.specs.inner.Objects.{whole_number, whole_numbers, o
 ghost use Rattle.symq_reader.specs.inner.Objects.{object_field_data};
 ghost use Rattle.symq_reader.specs.JsonData.{value_data, json_items_data};
 ghost use Rattle.symq_reader.specs.inner.Reading.{IsReadResult};
-ghost use Rattle.symq_reader.specs.UnderKeys.{value_at_key, required_value_under};
-ghost use Rattle.symq_reader.specs.UnderKeys.{optional_value_under, list_value_under};
-ghost use Rattle.symq_reader.specs.UnderKeys.{read_each_item, bool_value_under, some_if_u32};
+ghost use Rattle.symq_reader.specs.UnderKeys.{value_at_key, required_value_under_key};
+ghost use Rattle.symq_reader.specs.UnderKeys.{optional_value_under_key, list_under_key};
+ghost use Rattle.symq_reader.specs.UnderKeys.{read_each_item, bool_under_key, some_if_u32};
 ghost use Rattle.symq_reader.specs.UnderKeys.{as_u32, as_identifier};
 ghost use Rattle.symq_reader.specs.KindShapes.{identifier_view};
 
@@ -68,7 +68,7 @@ pub(crate) fn as_text<'a>(found: ObjectField<'_, 'a>) -> Option<&'a str>
 /// Returns a required string. It fails if the field is absent or no string, or if an allocation
 /// failed.
 pub(crate) fn text(alloc: Global, object: &Object<'_, '_>, key: &str) -> Result<String, FormatFault>
-    ensures { IsReadResult string_bytes result (required_value_under as_str key.now (object_data object.now)) }
+    ensures { IsReadResult string_bytes result (required_value_under_key as_str key.now (object_data object.now)) }
 {
     let Some(found) = field(object, key).and_then(as_text) else {
         return Err(FormatFault::BadForm);
@@ -84,7 +84,7 @@ pub(crate) fn optional_text(
     key: &str,
 ) -> Result<Option<String>, FormatFault>
     ensures { IsReadResult (option_map string_bytes) result
-        (optional_value_under as_str key.now (object_data object.now)) }
+        (optional_value_under_key as_str key.now (object_data object.now)) }
 {
     match field(object, key) {
         None => Ok(None),
@@ -94,7 +94,7 @@ pub(crate) fn optional_text(
 
 /// Returns a flag; false if the field is absent. It fails if the field is no boolean.
 pub(crate) fn flag(object: &Object<'_, '_>, key: &str) -> Result<bool, FormatFault>
-    ensures { IsReadResult (λ b. b) result (bool_value_under key.now (object_data object.now)) }
+    ensures { IsReadResult (λ b. b) result (bool_under_key key.now (object_data object.now)) }
 {
     match field(object, key) {
         None => Ok(false),
@@ -137,7 +137,7 @@ fn node_id(found: ObjectField<'_, '_>) -> Result<NodeId, FormatFault>
 
 /// Returns a required child. It fails if the field is absent or no number of 32 bits.
 pub(crate) fn child(object: &Object<'_, '_>, key: &str) -> Result<NodeId, FormatFault>
-    ensures { IsReadResult (λ n. n) result (required_value_under as_u32 key.now (object_data object.now)) }
+    ensures { IsReadResult (λ n. n) result (required_value_under_key as_u32 key.now (object_data object.now)) }
 {
     match field(object, key) {
         Some(found) => node_id(found),
@@ -150,7 +150,7 @@ pub(crate) fn optional_child(
     object: &Object<'_, '_>,
     key: &str,
 ) -> Result<Option<NodeId>, FormatFault>
-    ensures { IsReadResult (λ n. n) result (optional_value_under as_u32 key.now (object_data object.now)) }
+    ensures { IsReadResult (λ n. n) result (optional_value_under_key as_u32 key.now (object_data object.now)) }
 {
     match field(object, key) {
         Some(found) => Ok(Some(node_id(found)?)),
@@ -190,7 +190,7 @@ pub(crate) fn children(
     object: &Object<'_, '_>,
     key: &str,
 ) -> Result<Vec<NodeId>, FormatFault>
-    ensures { IsReadResult (λ v. v.items) result (list_value_under as_u32 key.now (object_data object.now)) }
+    ensures { IsReadResult (λ v. v.items) result (list_under_key as_u32 key.now (object_data object.now)) }
 {
     match field(object, key) {
         None => Ok(Vec::new(alloc)),
@@ -241,7 +241,7 @@ pub(crate) fn identifier(
     key: &str,
 ) -> Result<Id, FormatFault>
     ensures { IsReadResult identifier_view result
-        (required_value_under as_identifier key.now (object_data object.now)) }
+        (required_value_under_key as_identifier key.now (object_data object.now)) }
 {
     let Some((name, scope)) = field(object, key).and_then(named) else {
         return Err(FormatFault::BadForm);

@@ -4,13 +4,13 @@ ghost use Rattle.std.specs.Prelude.{codes, map, option_and_then};
 ghost use Rattle.serde_json.specs.Find.{as_str};
 ghost use Rattle.symq_reader.specs.JsonData.{value_data};
 ghost use Rattle.symq_reader.specs.inner.Reading.{IsReadResult};
-ghost use Rattle.symq_reader.specs.UnderKeys.{list_value_under};
-ghost use Rattle.symq_reader.specs.GraphText.{as_esm, module_kind_by_tag, module_kind_shape};
+ghost use Rattle.symq_reader.specs.UnderKeys.{list_under_key};
+ghost use Rattle.symq_reader.specs.GraphText.{as_esm, module_kind_by_tag, raw_module_kind_view};
 ghost use Rattle.symq_reader.specs.GraphText.{as_module};
-ghost use Rattle.symq_reader.specs.GraphText.{module_shape, as_redirect, redirect_shape};
+ghost use Rattle.symq_reader.specs.GraphText.{raw_module_view, as_redirect, raw_redirect_view};
 ghost use Rattle.symq_reader.specs.GraphText.{as_resolution};
-ghost use Rattle.symq_reader.specs.GraphText.{resolution_shape, require_object, graph_fields};
-ghost use Rattle.symq_reader.specs.GraphText.{graph_shape};
+ghost use Rattle.symq_reader.specs.GraphText.{raw_resolution_view, require_object, graph_of_json_fields};
+ghost use Rattle.symq_reader.specs.GraphText.{raw_graph_view};
 
 use crate::faults::FormatFault;
 use crate::fields::{self, Object};
@@ -21,7 +21,7 @@ use symbols_ast::graph::{RawGraph, RawModule, RawModuleKind, RawResolution};
 
 /// Returns the fields of an ECMAScript module.
 fn esm(alloc: Global, value: &Value<'_>) -> Result<RawModuleKind, FormatFault>
-    ensures { IsReadResult module_kind_shape result (as_esm (value_data value.now)) }
+    ensures { IsReadResult raw_module_kind_view result (as_esm (value_data value.now)) }
 {
     let text = fields::text(alloc, &Object::Value(value), "text")?;
     let tree = nodes::optional_tree(alloc, value)?;
@@ -32,7 +32,7 @@ fn esm(alloc: Global, value: &Value<'_>) -> Result<RawModuleKind, FormatFault>
 /// Returns the fields of a module whose `kind` is this keyword. It fails if the keyword or a field
 /// is wrong, or if an allocation failed.
 fn kind_by_tag(alloc: Global, kind: &str, value: &Value<'_>) -> Result<RawModuleKind, FormatFault>
-    ensures { IsReadResult module_kind_shape result (module_kind_by_tag kind.now (value_data value.now)) }
+    ensures { IsReadResult raw_module_kind_view result (module_kind_by_tag kind.now (value_data value.now)) }
 {
     match kind {
         "esm" => esm(alloc, value),
@@ -47,7 +47,7 @@ fn kind_by_tag(alloc: Global, kind: &str, value: &Value<'_>) -> Result<RawModule
 /// Returns a module: its specifier, and the fields of its kind. Missing or malformed fields are a
 /// fault.
 pub(crate) fn module(alloc: Global, value: &Value<'_>) -> Result<RawModule, FormatFault>
-    ensures { IsReadResult module_shape result (as_module (value_data value.now)) }
+    ensures { IsReadResult raw_module_view result (as_module (value_data value.now)) }
 {
     let specifier = fields::text(alloc, &Object::Value(value), "specifier")?;
     let Some(kind) = lookup::field(value, "kind").and_then(lookup::as_text) else {
@@ -58,8 +58,8 @@ pub(crate) fn module(alloc: Global, value: &Value<'_>) -> Result<RawModule, Form
 }
 
 fn modules(alloc: Global, value: &Value<'_>) -> Result<Vec<RawModule>, FormatFault>
-    ensures { IsReadResult (λ v. map module_shape v.items) result
-        (list_value_under as_module (codes "modules") (value_data value.now)) }
+    ensures { IsReadResult (λ v. map raw_module_view v.items) result
+        (list_under_key as_module (codes "modules") (value_data value.now)) }
 {
     let Some(items) = lookup::list(value, "modules")? else {
         return Ok(Vec::new(alloc));
@@ -73,7 +73,7 @@ fn modules(alloc: Global, value: &Value<'_>) -> Result<Vec<RawModule>, FormatFau
 
 /// Returns a redirect: its source and its target.
 fn redirect(alloc: Global, value: &Value<'_>) -> Result<(String, String), FormatFault>
-    ensures { IsReadResult redirect_shape result (as_redirect (value_data value.now)) }
+    ensures { IsReadResult raw_redirect_view result (as_redirect (value_data value.now)) }
 {
     let Some((from, to)) = lookup::pair(value) else {
         return Err(FormatFault::BadForm);
@@ -87,8 +87,8 @@ fn redirect(alloc: Global, value: &Value<'_>) -> Result<(String, String), Format
 }
 
 fn redirects(alloc: Global, value: &Value<'_>) -> Result<Vec<(String, String)>, FormatFault>
-    ensures { IsReadResult (λ v. map redirect_shape v.items) result
-        (list_value_under as_redirect (codes "redirects") (value_data value.now)) }
+    ensures { IsReadResult (λ v. map raw_redirect_view v.items) result
+        (list_under_key as_redirect (codes "redirects") (value_data value.now)) }
 {
     let Some(items) = lookup::list(value, "redirects")? else {
         return Ok(Vec::new(alloc));
@@ -102,7 +102,7 @@ fn redirects(alloc: Global, value: &Value<'_>) -> Result<Vec<(String, String)>, 
 
 /// Returns a resolution: what a specifier in a module resolves to.
 fn resolution(alloc: Global, value: &Value<'_>) -> Result<RawResolution, FormatFault>
-    ensures { IsReadResult resolution_shape result (as_resolution (value_data value.now)) }
+    ensures { IsReadResult raw_resolution_view result (as_resolution (value_data value.now)) }
 {
     let Some((referrer, specifier_text, to)) = lookup::triple(value) else {
         return Err(FormatFault::BadForm);
@@ -122,8 +122,8 @@ fn resolution(alloc: Global, value: &Value<'_>) -> Result<RawResolution, FormatF
 }
 
 fn resolutions(alloc: Global, value: &Value<'_>) -> Result<Vec<RawResolution>, FormatFault>
-    ensures { IsReadResult (λ v. map resolution_shape v.items) result
-        (list_value_under as_resolution (codes "resolutions") (value_data value.now)) }
+    ensures { IsReadResult (λ v. map raw_resolution_view v.items) result
+        (list_under_key as_resolution (codes "resolutions") (value_data value.now)) }
 {
     let Some(items) = lookup::list(value, "resolutions")? else {
         return Ok(Vec::new(alloc));
@@ -137,7 +137,7 @@ fn resolutions(alloc: Global, value: &Value<'_>) -> Result<Vec<RawResolution>, F
 
 /// Returns the graph that a JSON value describes. Each number in the value has to be whole.
 pub(crate) fn graph(alloc: Global, value: &Value<'_>) -> Result<RawGraph, FormatFault>
-    ensures { IsReadResult graph_shape result (require_object graph_fields (value_data value.now)) }
+    ensures { IsReadResult raw_graph_view result (require_object graph_of_json_fields (value_data value.now)) }
 {
     if !matches!(value, Value::Object(_)) {
         return Err(FormatFault::BadForm);

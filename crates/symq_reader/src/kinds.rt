@@ -3,8 +3,8 @@
 ghost use Rattle.std.specs.Prelude.{◌≡◌, Option, Some, option_map};
 ghost use Rattle.symq_reader.specs.inner.Objects.{object_data};
 ghost use Rattle.symq_reader.specs.inner.Reading.{IsReadResult};
-ghost use Rattle.symq_reader.specs.KindShapes.{KindShape};
-ghost use Rattle.symq_reader.specs.KindShapesTable.{kind_shape};
+ghost use Rattle.symq_reader.specs.KindShapes.{KindNameAndFieldValues};
+ghost use Rattle.symq_reader.specs.KindShapesTable.{kind_name_and_field_values};
 ghost use Rattle.symq_reader.specs.ReadKinds.{read_kind, node_kind_by_tag};
 
 mod decls;
@@ -21,7 +21,7 @@ use symbols_ast::tree::Kind;
 
 /// Returns a kind that was read, as one that its enum has.
 fn some_kind<T: Drop>(read: Result<T, FormatFault>) -> Result<Option<T>, FormatFault>
-    ensures { (view : T → KindShape) (there : Option KindShape) → IsReadResult view read there
+    ensures { (view : T → KindNameAndFieldValues) (there : Option KindNameAndFieldValues) → IsReadResult view read there
         → IsReadResult (option_map view) result (option_map Some there) }
 {
     match read {
@@ -34,7 +34,7 @@ fn some_kind<T: Drop>(read: Result<T, FormatFault>) -> Result<Option<T>, FormatF
 /// kinds next, for speed alone. It fails if the name or a field is wrong, or if an allocation
 /// failed.
 fn kind_by_tag(alloc: Global, kind: &str, object: &Object<'_, '_>) -> Result<Kind, FormatFault>
-    ensures { IsReadResult kind_shape result (node_kind_by_tag kind.now (object_data object.now)) }
+    ensures { IsReadResult kind_name_and_field_values result (node_kind_by_tag kind.now (object_data object.now)) }
 {
     if kind == "TsTypeAnn" {
         return Ok(Kind::Ty(tys::ts_type_ann(object)?));
@@ -64,7 +64,7 @@ fn kind_by_tag(alloc: Global, kind: &str, object: &Object<'_, '_>) -> Result<Kin
 /// if another field is wrong, or if an allocation failed.
 #[tactic(auto, unfolding(crate::specs::ReadKinds::read_kind))]
 pub(crate) fn kind(alloc: Global, object: &Object<'_, '_>) -> Result<Kind, FormatFault>
-    ensures { IsReadResult kind_shape result (read_kind (object_data object.now)) }
+    ensures { IsReadResult kind_name_and_field_values result (read_kind (object_data object.now)) }
 {
     match fields::field(object, "kind").and_then(fields::as_text) {
         Some(kind) => kind_by_tag(alloc, kind, object),

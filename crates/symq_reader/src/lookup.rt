@@ -6,7 +6,7 @@ ghost use Rattle.serde_json.specs.Find.{as_array, as_str};
 ghost use Rattle.symq_reader.specs.JsonData.{value_data, items_data, json_items_data};
 ghost use Rattle.symq_reader.specs.inner.JsonData.{optional_items_data};
 ghost use Rattle.symq_reader.specs.inner.Reading.{IsReadResult};
-ghost use Rattle.symq_reader.specs.UnderKeys.{none_if_null, value_at_key, array_items_under};
+ghost use Rattle.symq_reader.specs.UnderKeys.{none_if_null, value_at_key, array_items_under_key};
 ghost use Rattle.symq_reader.specs.UnderKeys.{two_items, three_items, as_pair, as_triple};
 
 use crate::faults::FormatFault;
@@ -61,7 +61,7 @@ pub(crate) fn list<'v, 'a>(
     value: &'v Value<'a>,
     key: &str,
 ) -> Result<Option<&'v [Value<'a>]>, FormatFault>
-    ensures { IsReadResult optional_items_data result (array_items_under key.now (value_data value.now)) }
+    ensures { IsReadResult optional_items_data result (array_items_under_key key.now (value_data value.now)) }
 {
     match field(value, key) {
         None => Ok(None),

@@ -3,7 +3,7 @@
 ghost use Rattle.std.specs.Prelude.{◌≡◌};
 ghost use Rattle.symq_reader.specs.inner.Objects.{object_data};
 ghost use Rattle.symq_reader.specs.inner.Reading.{IsReadResult};
-ghost use Rattle.symq_reader.specs.UnderKeys.{required_value_under, optional_value_under};
+ghost use Rattle.symq_reader.specs.UnderKeys.{required_value_under_key, optional_value_under_key};
 ghost use Rattle.symq_reader.specs.MemberKeywords.{accessibility_by_keyword, as_accessibility};
 ghost use Rattle.symq_reader.specs.MemberKeywords.{method_kind_by_keyword, as_method_kind};
 
@@ -42,7 +42,7 @@ pub(crate) fn accessibility(
     key: &str,
 ) -> Result<Option<Accessibility>, FormatFault>
     ensures { IsReadResult (λ a. a) result
-        (optional_value_under as_accessibility key.now (object_data object.now)) }
+        (optional_value_under_key as_accessibility key.now (object_data object.now)) }
 {
     let Some(found) = fields::field(object, key) else {
         return Ok(None);
@@ -56,7 +56,7 @@ pub(crate) fn accessibility(
 /// Returns the method kind of a member. It fails if the field is absent or no such keyword.
 pub(crate) fn method_kind(object: &Object<'_, '_>, key: &str) -> Result<MethodKind, FormatFault>
     ensures { IsReadResult (λ k. k) result
-        (required_value_under as_method_kind key.now (object_data object.now)) }
+        (required_value_under_key as_method_kind key.now (object_data object.now)) }
 {
     let keyword = fields::field(object, key).and_then(fields::as_text);
     match keyword.and_then(method_kind_by_keyword) {

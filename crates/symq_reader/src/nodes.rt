@@ -5,9 +5,9 @@ ghost use Rattle.serde_json.specs.Data.{array};
 ghost use Rattle.symq_reader.specs.inner.Objects.{whole_numbers, object_data, object_field_data};
 ghost use Rattle.symq_reader.specs.JsonData.{value_data};
 ghost use Rattle.symq_reader.specs.inner.Reading.{IsReadResult, IsReadFault};
-ghost use Rattle.symq_reader.specs.UnderKeys.{required_value_under, optional_value_under};
-ghost use Rattle.symq_reader.specs.UnderKeys.{list_value_under};
-ghost use Rattle.symq_reader.specs.GraphText.{as_range, as_node, as_tree, node_shape, tree_shape};
+ghost use Rattle.symq_reader.specs.UnderKeys.{required_value_under_key, optional_value_under_key};
+ghost use Rattle.symq_reader.specs.UnderKeys.{list_under_key};
+ghost use Rattle.symq_reader.specs.GraphText.{as_range, as_node, as_tree, raw_node_view, raw_tree_view};
 ghost use Rattle.symbols_ast.specs.declared.tree.arena.Node.{Node as SpecNode};
 
 use crate::entries::Entry;
@@ -63,7 +63,7 @@ fn as_range(found: ObjectField<'_, '_>) -> Option<SourceRange>
 /// Returns the source range of a node. It fails if the field is absent or no range.
 fn range(object: &Object<'_, '_>) -> Result<SourceRange, FormatFault>
     ensures { IsReadResult (λ r. r) result
-        (required_value_under as_range (codes "range") (object_data object.now)) }
+        (required_value_under_key as_range (codes "range") (object_data object.now)) }
 {
     match fields::field(object, "range").and_then(as_range) {
         Some(range) => Ok(range),
@@ -79,7 +79,7 @@ pub(crate) fn add_node(
     found: &mut Vec<Node>,
 ) -> Result<(), FormatFault>
     ensures added { IfOk result (λ _. (node : SpecNode)
-        × (as_node (object_data object.now) ≡ Some (node_shape node))
+        × (as_node (object_data object.now) ≡ Some (raw_node_view node))
         × (found.new.items ≡ found.old.items ++ node ∷ [])) }
     ensures refused { IfErr result (λ fault. IsReadFault (as_node (object_data object.now)) fault) }
 {
@@ -91,8 +91,8 @@ pub(crate) fn add_node(
 
 /// Returns the nodes of a tree, in order.
 fn nodes(alloc: Global, value: &Value<'_>) -> Result<Vec<Node>, FormatFault>
-    ensures { IsReadResult (λ v. map node_shape v.items) result
-        (list_value_under as_node (codes "nodes") (value_data value.now)) }
+    ensures { IsReadResult (λ v. map raw_node_view v.items) result
+        (list_under_key as_node (codes "nodes") (value_data value.now)) }
 {
     let Some(items) = lookup::list(value, "nodes")? else {
         return Ok(Vec::new(alloc));
@@ -106,7 +106,7 @@ fn nodes(alloc: Global, value: &Value<'_>) -> Result<Vec<Node>, FormatFault>
 
 /// Returns the tree that a JSON value describes. References between its nodes aren't checked.
 pub(crate) fn tree(alloc: Global, value: &Value<'_>) -> Result<Tree, FormatFault>
-    ensures { IsReadResult tree_shape result (as_tree (value_data value.now)) }
+    ensures { IsReadResult raw_tree_view result (as_tree (value_data value.now)) }
 {
     if !matches!(value, Value::Object(_)) {
         return Err(FormatFault::BadForm);
@@ -118,8 +118,8 @@ pub(crate) fn tree(alloc: Global, value: &Value<'_>) -> Result<Tree, FormatFault
 
 /// Returns the optional tree of a module.
 pub(crate) fn optional_tree(alloc: Global, value: &Value<'_>) -> Result<Option<Tree>, FormatFault>
-    ensures { IsReadResult (option_map tree_shape) result
-        (optional_value_under as_tree (codes "tree") (value_data value.now)) }
+    ensures { IsReadResult (option_map raw_tree_view) result
+        (optional_value_under_key as_tree (codes "tree") (value_data value.now)) }
 {
     match lookup::field(value, "tree") {
         None => Ok(None),

@@ -10,7 +10,7 @@ ghost use Rattle.symq_reader.specs.Numbers.{has_whole_numbers, items_have_whole_
 ghost use Rattle.symq_reader.specs.Numbers.{members_have_whole_numbers};
 ghost use Rattle.symq_reader.specs.JsonData.{number_or_minus_one, value_data};
 ghost use Rattle.symq_reader.specs.inner.JsonData.{fits, items_fit, members_fit};
-ghost use Rattle.symq_reader.specs.UnderKeys.{as_offset, as_u32};
+ghost use Rattle.symq_reader.specs.UnderKeys.{as_u64_number, as_u32};
 
 use crate::short_numbers::short_number;
 use fast_float::Numeral;
@@ -101,7 +101,7 @@ pub(crate) fn whole(digits: &str) -> Option<u64>
 
 /// Returns the number that a value is, if it is whole and fits 64 bits.
 pub(crate) fn offset(value: &Value<'_>) -> Option<u64>
-    ensures { result ≡ as_offset (value_data value.now) }
+    ensures { result ≡ as_u64_number (value_data value.now) }
 {
     match value {
         Value::Number(digits) => whole(digits),

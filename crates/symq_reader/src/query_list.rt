@@ -12,7 +12,7 @@ ghost use Rattle.json.specs.Print.{quoted};
 ghost use Rattle.json.specs.Run.{is_plain};
 ghost use Rattle.json.specs.Written.{PlainBetween};
 ghost use Rattle.symq_reader.specs.GraphText.{json_of_bytes};
-ghost use Rattle.symq_reader.specs.QueryLists.{query_list_data};
+ghost use Rattle.symq_reader.specs.QueryLists.{query_list_json};
 ghost use Rattle.symq_reader.specs.inner.ListTexts.{IsAfterComma, IsListTailText, IsListText};
 ghost use Rattle.symq_reader.specs.inner.ListTexts.{IsValidListTail};
 
@@ -155,7 +155,7 @@ fn list_in(bytes: &[u8]) -> Option<QueryList<'_>>
 /// `None` doesn't mean that the line is no query: strings with escapes and other spacing are
 /// unsupported here.
 pub fn read_query_list(bytes: &[u8]) -> Option<QueryList<'_>>
-    ensures { IfSome result (λ found. json_of_bytes bytes.now ≡ Some (query_list_data found)) }
+    ensures { IfSome result (λ found. json_of_bytes bytes.now ≡ Some (query_list_json found)) }
 {
     list_in(bytes)
 }

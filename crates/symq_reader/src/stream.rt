@@ -6,8 +6,8 @@
 //! number. It also gives up if one object has the modules, a tree or the nodes twice.
 
 ghost use Rattle.std.specs.Prelude.{◌≡◌, IfOk, Ok};
-ghost use Rattle.symq_reader.specs.GraphText.{graph_shape, read_outcome_of_bytes, require_object};
-ghost use Rattle.symq_reader.specs.GraphText.{graph_fields};
+ghost use Rattle.symq_reader.specs.GraphText.{raw_graph_view, read_outcome_of_bytes, require_object};
+ghost use Rattle.symq_reader.specs.GraphText.{graph_of_json_fields};
 ghost use Rattle.symq_reader.specs.inner.Streams.{ReadsMembers, ReadsValue};
 ghost use Rattle.symq_reader.specs.inner.Outcomes.{fast_path_fault_of_format_fault};
 ghost use Rattle.symq_reader.specs.inner.Outcomes.{fast_path_fault_of_json_error};
@@ -84,7 +84,7 @@ impl From<FormatFault> for FastPathFault {
 /// Reads a graph from the members of an object, after its brace.
 fn graph_members(alloc: Global, reader: &mut Reader<'_>) -> Result<RawGraph, FastPathFault>
     ensures { IfOk result (λ graph. ReadsMembers 126 reader.old reader.new
-        (require_object graph_fields) (graph_shape graph)) }
+        (require_object graph_of_json_fields) (raw_graph_view graph)) }
 {
     let mut retained = Vec::new(alloc);
     let found = modules::modules_among(alloc, reader, &mut retained)?;
@@ -96,7 +96,7 @@ fn graph_members(alloc: Global, reader: &mut Reader<'_>) -> Result<RawGraph, Fas
 /// Reads a graph from the next JSON value.
 fn graph_value(alloc: Global, reader: &mut Reader<'_>) -> Result<RawGraph, FastPathFault>
     ensures { IfOk result (λ graph. ReadsValue 127 reader.old reader.new
-        (require_object graph_fields) (graph_shape graph)) }
+        (require_object graph_of_json_fields) (raw_graph_view graph)) }
 {
     let Some(Token::BeginObject) = reader.next() else {
         return Err(FastPathFault::Unsupported);
@@ -106,7 +106,7 @@ fn graph_value(alloc: Global, reader: &mut Reader<'_>) -> Result<RawGraph, FastP
 
 /// Reads a graph from the bytes with one reader for the whole text.
 fn graph_at_once(alloc: Global, bytes: &[u8]) -> Result<RawGraph, FastPathFault>
-    ensures { IfOk result (λ graph. read_outcome_of_bytes bytes.now ≡ Ok (graph_shape graph)) }
+    ensures { IfOk result (λ graph. read_outcome_of_bytes bytes.now ≡ Ok (raw_graph_view graph)) }
 {
     let Ok(text) = simdutf8::compat::from_utf8(bytes) else {
         return Err(FastPathFault::Unsupported);
@@ -123,7 +123,7 @@ fn graph_at_once(alloc: Global, bytes: &[u8]) -> Result<RawGraph, FastPathFault>
 /// Returns the graph of a text on the fast path. It gives up if the text is unsupported or an
 /// allocation failed.
 pub(crate) fn graph(alloc: Global, bytes: &[u8]) -> Result<RawGraph, FastPathFault>
-    ensures { IfOk result (λ graph. read_outcome_of_bytes bytes.now ≡ Ok (graph_shape graph)) }
+    ensures { IfOk result (λ graph. read_outcome_of_bytes bytes.now ≡ Ok (raw_graph_view graph)) }
 {
     match pieces::after_opening(bytes) {
         Some(list) => pieces::graph(alloc, list),

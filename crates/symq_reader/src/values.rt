@@ -2,7 +2,7 @@
 
 ghost use Rattle.std.specs.Prelude.{◌≡◌, false, Some, IfOk, IfSome, MatchOption};
 ghost use Rattle.symq_reader.specs.GraphText.{json_of_bytes};
-ghost use Rattle.symq_reader.specs.Lists.{has_no_object};
+ghost use Rattle.symq_reader.specs.Lists.{has_no_object_and_whole_numbers};
 ghost use Rattle.symq_reader.specs.JsonData.{value_data};
 
 use crate::numbers;
@@ -23,7 +23,7 @@ pub fn read_value<'a>(
     scratch: &'a mut Scratch,
 ) -> Result<Option<Value<'a>>, AllocError>
     ensures { IfOk result
-        (λ found. MatchOption found (IfSome (json_of_bytes bytes.now) (λ d. has_no_object d ≡ false))
+        (λ found. MatchOption found (IfSome (json_of_bytes bytes.now) (λ d. has_no_object_and_whole_numbers d ≡ false))
         (λ value. json_of_bytes bytes.now ≡ Some (value_data value))) }
 {
     let Ok(text) = simdutf8::compat::from_utf8(bytes) else {

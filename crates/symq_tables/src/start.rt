@@ -15,17 +15,18 @@ pub(crate) enum Form {
     Json,
 }
 
-/// Returns the error of a failed allocation for this kind, or else the other error.
-fn exit_error(kind: ErrorKind, other: ExitError) -> ExitError {
+/// Returns the error for a file, or an argument, that can't be read: out of memory, or else an
+/// unreadable file. An argument that isn't UTF-8 names no file that this program can open.
+fn file_error(kind: ErrorKind) -> ExitError {
     match kind {
         ErrorKind::OutOfMemory => ExitError::Format(FormatFault::OutOfMemory),
-        _ => other,
+        _ => ExitError::NotRead,
     }
 }
 
 /// Returns the form and the path: `GRAPH` or `--json GRAPH`. One argument alone is always a path.
 fn args<R: Env + AllocGlobal>(rt: &R) -> Result<(Form, String), ExitError> {
-    let mut args = env::args(rt).map_err(|error| exit_error(error.kind(), ExitError::Usage))?;
+    let mut args = env::args(rt).map_err(|error| file_error(error.kind()))?;
     let (Some(_), Some(first), second, None) = (args.next(), args.next(), args.next(), args.next())
     else {
         return Err(ExitError::Usage);
@@ -43,10 +44,7 @@ pub(crate) fn read_args<R: Files + Env + AllocGlobal>(
     rt: &R,
 ) -> Result<(Form, RawGraph), ExitError> {
     let (form, path) = args(rt)?;
-    let bytes = fs::read(rt, path.as_str()).map_err(|error| exit_error(
-        error.kind(),
-        ExitError::NotRead,
-    ))?;
+    let bytes = fs::read(rt, path.as_str()).map_err(|error| file_error(error.kind()))?;
     let raw = read_graph(rt.alloc(), bytes.as_slice()).map_err(ExitError::Format)?;
     Ok((form, raw))
 }

@@ -1,9 +1,14 @@
-"""Queries on a graph: every form, on every symbol and every name, in any order; and lines that are no queries."""
+"""Queries on a graph: every form, on every symbol and every name, in any order; the inputs of some; and lines that are no queries."""
 import json
+import random
 
 from graphs.vocabulary import NAMES, ODD_NAMES, TEXTS
 from rules.graph import ModuleGraph
+from rules.queries import OF_A_MODULE, OF_A_SYMBOL
 from rules.raw_graph import graph_of_value
+
+# the forms with a symbol's number alone that are asked of each symbol; others are asked of some
+OF_EACH_SYMBOL = ('name', 'paths')
 
 BAD_LINES = [
     b'', b' ', b'[]', b'null', b'{"exports":"a"}', b'["exports"]', b'["exports","a",1]',
@@ -23,6 +28,12 @@ BAD_LINES = [
     b'["exports",NaN]', b'["paths","a",1e400]', b'["\\u0065xports","a"]', b'["paths","a",01]',
     b'["paths","a",0]', b'\x00', b'["exports","a"]\x0b', b'["names","a"]', b'["names"]', b'["names","a",0]',
     b'["leaves","a",0]', b'["definitions","a",0,0]', b'["module","a","b"]']
+
+BAD_INPUTS = [
+    b'["inputs"]', b'["inputs","a"]', b'["inputs",["exports","a"],1]', b'["inputs",["inputs",["exports","a"]]]', b'["inputs",["exports"]]',
+    b'["inputs",null]', b'["inputs",["exports","a",1]]', b'["Inputs",["exports","a"]]', b'["inputs",["paths","a"]]', b'[["inputs"],["exports","a"]]',
+    b'["\\u0069nputs",["exports","a"]]', b' [ "inputs" , [ "module" , "a" ] ] ', b'["inputs",["resolve","a",["import","./a",["a",1]]]]',
+    b'["inputs",["resolve","a",["id","a",1]]]', b'["inputs",["symbol","a","a",1]]', b'["inputs",["deps","a",0,"all"]]', b'["inputs",["a","b"]]']
 
 
 class Asking:
@@ -46,7 +57,7 @@ class Asking:
         found = []
         asked = [module.specifier for module in self.raw.modules] + [source for source, _ in self.raw.redirects]
         for specifier in asked + (['absent'] if self.rng.random() < 0.3 else []):
-            found += [['module', specifier], ['exports', specifier], ['names', specifier]]
+            found += [[form, specifier] for form in OF_A_MODULE]
             module = self.graph.stands_for(specifier)
             if module is None:
                 found += [['paths', specifier, 0], ['symbol', specifier, 'a', 1]]
@@ -61,7 +72,7 @@ class Asking:
             found += [['name', specifier, number], ['deps', specifier, number, 'types'],
                       ['deps', specifier, number, 'all'], ['paths', specifier, number]]
             if rng.random() < 0.2:
-                found += [['definitions', specifier, number], ['leaves', specifier, number]]
+                found += [[form, specifier, number] for form in OF_A_SYMBOL if form not in OF_EACH_SYMBOL]
         for name, scope in names:
             found.append(['symbol', specifier, name, scope])
             known = table.names.get((name, scope))
@@ -88,8 +99,15 @@ def line_of(rng, query) -> bytes:
     return json.dumps(query, ensure_ascii=rng.random() < 0.2, separators=separators).encode()
 
 
+def inputs_lines(asked) -> 'list[bytes]':
+    """Returns lines that query the inputs of some of the queries, and now and then one that is hard to read. They depend on the queries alone."""
+    rng = random.Random(json.dumps(asked))
+    lines = [line_of(rng, ['inputs', query]) for query in rng.sample(asked, min(12, len(asked)))]
+    return lines + [rng.choice(BAD_INPUTS) for _ in range(rng.choice([0, 0, 0, 1]))]
+
+
 def query_lines(rng, value, limit=160) -> 'list[bytes]':
-    """Returns at most this many queries on an accepted graph, among them some lines that are no queries."""
+    """Returns at most this many queries on an accepted graph, among them some lines that are no queries; and after them the inputs of some."""
     asked = Asking(rng, value).queries()
     rng.shuffle(asked)
     lines = [line_of(rng, query) for query in asked[:limit]]
@@ -99,4 +117,4 @@ def query_lines(rng, value, limit=160) -> 'list[bytes]':
         line = bytearray(rng.choice(lines) or b' ')
         line[rng.randrange(len(line))] = rng.randrange(256)
         lines.append(bytes(line).replace(b'\n', b' '))
-    return lines
+    return lines + inputs_lines(asked[:limit])

@@ -2,6 +2,7 @@
 from rules.checker import check_graph
 from rules.exports import exports
 from rules.faults import BAD_QUERY_LINE, BadQuery, FormatFault, GraphFault, SymbolsFault
+from rules.inputs import inputs_value
 from rules.json_text import text_of
 from rules.paths import End, Link, Search, Unresolved, definition_paths, ends
 from rules.queries import Query, read_query
@@ -82,6 +83,8 @@ def dependencies_value(symbol, mode):
 
 def answer(root: Root, query: Query) -> str:
     """Returns the answer's text, or raises a SymbolsFault."""
+    if query.for_inputs:
+        return text_of(inputs_value(root, query))
     module = root.module_from_specifier(query.specifier)
     if module is None:
         return 'null'

@@ -6,10 +6,11 @@ from rules.json_text import U32, read_json
 
 
 class Query(NamedTuple):
-    """A query: its form, its specifier, and its other items."""
+    """A query: its form, its specifier, its other items, and whether its inputs are queried."""
     form: str
     specifier: str
     asked: tuple
+    for_inputs: bool = False
 
 
 def _text(value) -> str:
@@ -57,9 +58,17 @@ def _reference(value) -> tuple:
 # by form, the function that reads the items after the specifier
 FORMS = {'module': (), 'exports': (), 'names': (), 'symbol': (_text, _number), 'name': (_number,), 'deps': (_number, _mode),
          'paths': (_number,), 'definitions': (_number,), 'leaves': (_number,), 'resolve': (_reference,)}
+# the forms with a specifier alone, and those with a symbol's number as well
+OF_A_MODULE, OF_A_SYMBOL = ([form for form, read in FORMS.items() if read == items] for items in ((), (_number,)))
 
 
 def query_of_value(value) -> Query:
+    if type(value) is list and len(value) == 2 and value[0] == 'inputs':
+        return _query_on_module(value[1])._replace(for_inputs=True)
+    return _query_on_module(value)
+
+
+def _query_on_module(value) -> Query:
     items = _items(value)
     if len(items) < 2 or _text(items[0]) not in FORMS or len(FORMS[items[0]]) != len(items) - 2:
         raise BadQuery()

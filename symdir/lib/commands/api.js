@@ -7,7 +7,7 @@ import { isDefinition } from '../folder/folder.js';
 import { endOf, endText } from '../folder/ends.js';
 import { Open } from '../folder/open.js';
 import { shortOf } from '../folder/specifier.js';
-import { columns, counted, placeText } from '../output.js';
+import { byName, columns, counted, placeText } from '../output.js';
 import { apiFindings } from '../report/findings.js';
 import { replaceFile } from '../write.js';
 import { ownersText, sharedNames } from './shared.js';
@@ -122,7 +122,7 @@ function printEntry({ print, paint }, entry, answer) {
   const names = answer.names.filter((it) => it.entry === entry);
   const files = new Set(names.flatMap((it) => it.defined.map((place) => place.file)));
   print(`${paint.bold(entry)}: ${counted(names.length, 'public name')}${files.size > 0 ? `, defined in ${counted(files.size, 'file')}` : ''}`);
-  const sorted = [...names].sort((a, b) => a.name.toLowerCase().localeCompare(b.name.toLowerCase(), 'en') || (a.name < b.name ? -1 : 1));
+  const sorted = [...names].sort(byName);
   const rows = sorted.map((it) => [`  ${it.name}`, it.kind, whereText(it), throughText(it)]);
   const lines = columns(rows, ([name, kind, where, through]) => [name, kind, /^unresolved/.test(where) ? paint.red(where) : where, paint.dim(through ?? '')]);
   lines.forEach((line, i) => [line, ...(answer.docLines?.(sorted[i]) ?? []).map((it) => paint.dim(it))].forEach(print));
@@ -163,9 +163,9 @@ export async function checkSave({ options }) {
 
 /** @param {Run} run @param {Folder} folder @returns {Promise<number>} */
 async function save({ options, print }, folder) {
-  const [{ surfaceOf }, { surfaceText, withoutMembers }] = await Promise.all([import('../surface/surface.js'), import('../surface/text.js')]);
+  const [{ keptSurface }, { surfaceText, withoutMembers }] = await Promise.all([import('../surface/kept.js'), import('../surface/text.js')]);
   const file = /** @type {string} */ (options.save);
-  const items = await surfaceOf(folder);
+  const items = await keptSurface(folder, false);
   replaceFile(file, [Buffer.from(surfaceText(items))]);
   print(`${file}: ${counted(withoutMembers(items).length, 'public name')}`);
   return 0;
@@ -183,37 +183,69 @@ function textOf(file) {
 
 /** @param {Run} run @param {Folder} folder @returns {Promise<number>} */
 async function check(run, folder) {
-  const [{ surfaceOf }, { readSurface }, { changesBetween, reportChanges }, { placed }] = await Promise.all([
-    import('../surface/surface.js'), import('../surface/text.js'), import('./diff.js'), import('../report/findings.js')]);
+  const [{ keptSurface }, { readSurface }, { changesBetween, reportChanges }] = await Promise.all([
+    import('../surface/kept.js'), import('../surface/text.js'), import('./diff.js')]);
   const file = /** @type {string} */ (run.options.check);
   const before = readSurface(textOf(file), file);
-  const read = await surfaceOf(folder);
-  const items = run.report.format ? placed(folder, read) : read;
+  const items = await keptSurface(folder, run.report.format !== undefined);
   const texts = { same: `the public names are those of ${file}`, hint: `; \`symdir api DIR --save ${file}\` updates the snapshot` };
-  return reportChanges(run, changesBetween(before, { items, isWhole: true }), items, texts);
+  return reportChanges(run, await changesBetween(before, { items, isWhole: true }), items, texts);
 }
 
 /** @param {Run} run @param {Folder} folder @returns {Promise<string>} the section of a page with its picture, which Graphviz draws while the rest of the page is made */
 async function drawn(run, folder) {
   if (run.report.format !== 'html') return '';
-  const { pictureHtml } = await import('../report/picture.js');
+  // what makes the page is loaded while symq reads the graph
+  const [{ pictureHtml }] = await Promise.all([import('../report/picture.js'), import('../report/api.js'), import('../report/html.js')]);
   return pictureHtml(run, folder);
+}
+
+/** @param {Folder} folder @param {Promise<Answer>} answer asked before @returns {Promise<Answer>} with signatures and doc comments of its names, which are asked for at the same time */
+async function withDocs(folder, answer) {
+  const { described, docLines } = await import('../report/described.js');
+  const names = await described(folder, answer);
+  return { ...await answer, names, docLines };
+}
+
+/** @param {Run} run @param {Folder} folder @returns {Promise<number>} the status, with the page of the run before where that is kept */
+async function paged(run, folder) {
+  const { report } = run;
+  const [{ titleOf }, { identityOf }] = await Promise.all([import('../report/title.js'), import('../folder/results.js')]);
+  const of = [titleOf(folder), identityOf('dot')];
+  const kept = folder.kept(of);
+  if (kept) {
+    report.found.rest(kept.findings, (it) => it);
+    report.body = kept.page;
+    return report.found.status;
+  }
+  const before = report.found.all.length;
+  let isWhole = true;
+  const warn = (/** @type {string} */ line) => {
+    isWhole = false;
+    run.warn(line);
+  };
+  const status = await reported({ ...run, warn }, folder);
+  if (isWhole) folder.keep({ findings: report.found.all.slice(before), page: report.body }, of);
+  return status;
 }
 
 /** @param {Run} run @param {Folder} folder @returns {Promise<number>} the status */
 export async function api(run, folder) {
   if (run.options.save) return save(run, folder);
   if (run.options.check) return check(run, folder);
+  return run.report.format === 'html' ? paged(run, folder) : reported(run, folder);
+}
+
+/** @param {Run} run @param {Folder} folder @returns {Promise<number>} the status */
+async function reported(run, folder) {
   const { report, options } = run;
   const picture = drawn(run, folder);
   // where the page fails before, that is told
   picture.catch(() => {});
-  const found = await exportsOf(folder);
+  const found = exportsOf(folder);
   const isDescribed = options.docs || report.format === 'markdown' || report.format === 'html';
-  const { described, docLines } = isDescribed ? await import('../report/described.js') : { described: null, docLines: undefined };
-  const names = described ? await described(folder, found.names) : found.names;
-  const answer = { ...found, docLines, names };
-  const { open, shared, declared, unlisted } = answer;
+  const [answer] = await Promise.all([isDescribed ? withDocs(folder, found) : found, found]);
+  const { names, open, shared, declared, unlisted } = answer;
   const entries = folder.entries.map((it) => folder.short(it));
   report.found.rest(apiFindings(folder, answer), (it) => it);
   if (report.format === 'markdown' || report.format === 'html') {

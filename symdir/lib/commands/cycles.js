@@ -3,6 +3,7 @@ import path from 'node:path';
 
 import { keepsImports } from '../folder/aliases.js';
 import { isDefinition } from '../folder/folder.js';
+import { languageOf } from '../language.js';
 import { columns, counted, placeText } from '../output.js';
 import { cycleFinding } from '../report/findings.js';
 import { bestCut, cyclicParts, partOf, shortestCycle } from '../uses/circles.js';
@@ -29,13 +30,22 @@ import { Tree } from '../uses/tree.js';
 
 const TYPES = /^(interface|type)$/;
 
+/** No code is made of it. */
+const DECLARATIONS = new Tree('', [], true);
+
+/** @param {import('../folder/sources.js').Module} module @returns {Tree} of a declaration file none of its nodes, where none of them can be a call of `require`: its references tell all */
+function treeOf(module) {
+  const isEnough = languageOf(module.file).declaration && !module.parsed.text.includes('require');
+  return isEnough ? DECLARATIONS : Tree.of(module);
+}
+
 /** @param {Folder} folder @returns {Link[]} between modules of the folder */
 function linksIn(folder) {
   const { modules, files } = folder.sources;
   const own = [...modules.values()].filter((it) => files.holds(it.file));
   const names = new Set(own.map((it) => it.specifier));
   return own.flatMap((it) => {
-    const tree = Tree.of(it);
+    const tree = treeOf(it);
     const links = [...linksOf(folder, it, tree), ...mentionsOf(folder, it, tree).filter(({ how }) => how === 'require')];
     return links.filter(({ to }) => to !== null && names.has(to));
   });
@@ -69,7 +79,7 @@ async function loading(folder, links) {
 
 /** @param {Folder} folder @param {any} end of a path @returns {boolean} whether it is a value, or isn't known */
 function isValue(folder, end) {
-  return !isDefinition(end) || !TYPES.test(folder.defined(end).kind);
+  return !isDefinition(end) || !TYPES.test(folder.kindOf(end));
 }
 
 class Graph {

@@ -9,9 +9,9 @@ import { isFile, isFolder, withSlashes } from '../folder/files.js';
 import { Folder } from '../folder/folder.js';
 import { Temporary } from '../folder/temporary.js';
 import { columns, counted } from '../output.js';
-import { changeFinding, placed } from '../report/findings.js';
+import { changeFinding } from '../report/findings.js';
 import { adviceOf, compared } from '../surface/compare.js';
-import { surfaceOf } from '../surface/surface.js';
+import { keptSurface } from '../surface/kept.js';
 import { readSurface, withoutMembers } from '../surface/text.js';
 
 /** @typedef {import('../cli.js').Run} Run */
@@ -32,8 +32,7 @@ async function surfaceIn(run, reading, { asked }) {
     try {
       folder.sources.faults().forEach(run.warn);
       folder.open(asked);
-      const items = await surfaceOf(folder);
-      return run.report.format ? placed(folder, items) : items;
+      return await keptSurface(folder, run.report.format !== undefined);
     } finally {
       await folder.close();
     }
@@ -68,7 +67,7 @@ function unpacked({ revision, below }, to) {
 }
 
 /** @param {Run} run @param {string} word a folder, a snapshot or a revision @param {How} how @returns {Promise<Surface>} */
-async function surfaceFor(run, word, how) {
+export async function surfaceFor(run, word, how) {
   if (isFolder(word)) return { items: await surfaceIn(run, how.read(word), how), isWhole: true };
   if (isFile(word)) return snapshotAt(word);
   const revision = revisionOf(word);
@@ -107,8 +106,8 @@ function withEntries(before, now) {
   return before.map((it) => (it.entry === gone[0] ? { ...it, entry: came[0] } : it));
 }
 
-/** @param {Surface} before @param {Surface} now @returns {Change[]} of names alone where one side has no members */
-export function changesBetween(before, now) {
+/** @param {Surface} before @param {Surface} now @returns {Promise<Change[]>} of names alone where one side has no members */
+export async function changesBetween(before, now) {
   const old = withEntries(before.items, now.items);
   if (before.isWhole && now.isWhole) return compared(old, now.items);
   return compared(withoutMembers(old), withoutMembers(now.items));
@@ -162,5 +161,5 @@ export async function diff(run, how) {
   const before = await surfaceFor(run, old, how);
   const now = await surfaceFor(run, fresh, how);
   const same = `the ${counted(withoutMembers(now.items).length, 'public name')} and their members are the same`;
-  return reportChanges(run, changesBetween(before, now), now.items, { same });
+  return reportChanges(run, await changesBetween(before, now), now.items, { same });
 }

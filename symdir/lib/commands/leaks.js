@@ -1,7 +1,7 @@
 // `symdir leaks`: types that public declarations need and that no entry exports.
 import { isDefinition } from '../folder/folder.js';
 import { Names } from '../folder/names.js';
-import { endsOf } from '../folder/settle.js';
+import { endsOf } from '../folder/paths.js';
 import { languageOf } from '../language.js';
 import { columns, counted, placeText, wrapped } from '../output.js';
 import { leakFinding } from '../report/findings.js';

@@ -1,7 +1,7 @@
 // `symdir missing`: unresolved imports and `export *`, and imported names that no module exports.
 import { isDefinition } from '../folder/folder.js';
 import { endOf } from '../folder/ends.js';
-import { endsOf } from '../folder/settle.js';
+import { endsOf } from '../folder/paths.js';
 import { columns, counted, placeText } from '../output.js';
 import { missingFinding } from '../report/findings.js';
 import { ownersText, partingText, sharedNames } from './shared.js';

@@ -35,7 +35,7 @@ async function namesOf({ folder, facts }, found) {
   const leaves = await folder.leaves(found.map(({ row }) => [row.module, row.symbol]));
   return found.map(({ module, row }, i) => {
     const definitions = leaves[i].filter(isDefinition);
-    const kinds = definitions.map((it) => folder.defined(it).kind);
+    const kinds = definitions.map((it) => folder.kindOf(it));
     const specifier = facts.get(module)?.specifiers.get(row.name);
     const own = definitions.find((it) => it.module === module);
     const { file, line, column } = !specifier && own ? folder.defined(own) : folder.place(module, specifier?.start ?? 0);

@@ -6,7 +6,7 @@ import { Failure } from '../failure.js';
 import { isDefinition } from '../folder/folder.js';
 import { endOf, endText } from '../folder/ends.js';
 import { openMembers } from '../folder/members.js';
-import { endsOf } from '../folder/settle.js';
+import { endsOf, visitPaths } from '../folder/paths.js';
 import { Places, decoded } from '../folder/text.js';
 import { languageOf } from '../language.js';
 import { columns, placeText } from '../output.js';
@@ -142,14 +142,18 @@ function hiddenFrom(folder, specifier, entries) {
   return new Set(elsewhere.filter((it) => !exported.has(it)));
 }
 
-/** @param {Folder} folder @param {any} entry of a path @param {string[]} through @param {Set<any>} hidden definitions that aren't told @returns {Way[]} */
-function waysOf(folder, entry, through, hidden) {
-  const here = folder.short(entry.module);
-  if (hidden.has(entry)) return [];
-  if (isDefinition(entry)) return [{ through, defined: folder.defined(entry), unresolved: null }];
-  const path = through[through.length - 1] === here ? through : [...through, here];
-  if ('next' in entry) return /** @type {any} */ (entry).next.flatMap((/** @type {any} */ it) => waysOf(folder, it, path, hidden));
-  return [{ through, defined: null, unresolved: endOf(folder, entry) }];
+/** @param {Folder} folder @param {any[]} entries of paths @param {Set<any>} hidden definitions that aren't told @returns {Way[]} */
+function waysOf(folder, entries, hidden) {
+  /** @type {Way[]} */
+  const found = [];
+  visitPaths(entries, /** @type {string[]} */ ([]), (it, through) => {
+    const here = folder.short(it.module);
+    if ('next' in it) return through[through.length - 1] === here ? through : [...through, here];
+    if (isDefinition(it) && !hidden.has(it)) found.push({ through, defined: folder.defined(it), unresolved: null });
+    if (!isDefinition(it)) found.push({ through, defined: null, unresolved: endOf(folder, it) });
+    return through;
+  });
+  return found;
 }
 
 /** @param {TreeNode} node @returns {TreeNode[]} the names that it declares by a field */
@@ -234,7 +238,7 @@ async function waysAt(folder, spot, name) {
   const paths = await pathsOf(folder, module.specifier, hits);
   await openMembers(folder, paths);
   /** @type {{ hit: Hit, ways: Way[] }[]} */
-  const found = hits.map((hit, i) => ({ hit, ways: paths[i].flatMap((entry) => waysOf(folder, entry, [], hiddenFrom(folder, module.specifier, paths[i]))) }));
+  const found = hits.map((hit, i) => ({ hit, ways: waysOf(folder, paths[i], hiddenFrom(folder, module.specifier, paths[i])) }));
   for (const it of found) if (!it.ways.some((way) => way.defined)) it.ways = orOwn(it.ways, localWays(folder, module.specifier, made.nodes, it.hit));
   return { module, found };
 }

@@ -26,20 +26,28 @@ function extended(configs, text, folder) {
   }
 }
 
-/** @param {Configs} configs @param {string} file @param {number} [depth] @returns {Paths} with what it extends, of which its own words win */
-function pathsOf(configs, file, depth = 0) {
+/** @typedef {{ base?: string, paths?: Record<string, string[]>, folder?: string }} Said by a file: `baseUrl`, `paths`, and the folder of the file that says these */
+
+/** @param {Configs} configs @param {string} file @param {number} [depth] @returns {Said} with what it extends, of which its own words win */
+function saidBy(configs, file, depth = 0) {
   const folder = path.posix.dirname(file);
   const { extends: above, compilerOptions } = configs.value(file);
-  const own = table(compilerOptions);
-  /** @type {Paths} */
-  let found = { base: null, paths: {}, from: folder };
+  const { baseUrl, paths } = table(compilerOptions);
+  /** @type {Said} */
+  let found = {};
   for (const it of [above ?? []].flat()) {
     const next = typeof it === 'string' && depth < 20 ? extended(configs, it, folder) : null;
-    if (next) found = { ...found, ...pathsOf(configs, next, depth + 1) };
+    if (next) found = { ...found, ...saidBy(configs, next, depth + 1) };
   }
-  if (typeof own.baseUrl === 'string') found = { ...found, base: path.posix.resolve(folder, own.baseUrl), from: path.posix.resolve(folder, own.baseUrl) };
-  if (own.paths && typeof own.paths === 'object') found = { ...found, paths: own.paths, from: found.base ?? folder };
+  if (typeof baseUrl === 'string') found.base = path.posix.resolve(folder, baseUrl);
+  if (paths && typeof paths === 'object') found = { ...found, paths, folder };
   return found;
+}
+
+/** @param {Configs} configs @param {string} file @returns {Paths} */
+function pathsOf(configs, file) {
+  const { base = null, paths = {}, folder = '/' } = saidBy(configs, file);
+  return { base, paths, from: base ?? folder };
 }
 
 /** @param {Configs} configs @param {string} file @param {number} [depth] @returns {boolean | null} as the file says, or else what it extends last; null where none says it */
@@ -131,6 +139,11 @@ function mapped(imports, text) {
   return key === undefined ? null : imports[key] + text.slice(key.length);
 }
 
+/** @param {string} scope absolute @param {boolean} isDirectory @param {string} module @returns {boolean} whether the module is in the directory, or is the scope itself */
+function isWithin(scope, isDirectory, module) {
+  return isDirectory ? module.startsWith(scope === '/' ? '/' : `${scope}/`) : module === scope;
+}
+
 /**
  * What an import map makes of a text.
  * @param {ImportMap} map
@@ -139,7 +152,7 @@ function mapped(imports, text) {
  * @returns {string | null} a specifier, or an absolute path
  */
 export function mappedText(map, text, from) {
-  const inScope = Object.keys(map.scopes).filter((it) => from.startsWith(path.posix.resolve(map.folder, it))).sort((a, b) => b.length - a.length);
+  const inScope = Object.keys(map.scopes).filter((it) => isWithin(path.posix.resolve(map.folder, it), it.endsWith('/'), from)).sort((a, b) => b.length - a.length);
   for (const imports of [...inScope.map((it) => map.scopes[it]), map.imports]) {
     const target = mapped(imports, text);
     if (target !== null) return /^\.{0,2}\//.test(target) ? path.posix.resolve(map.folder, target) + (target.endsWith('/') ? '/' : '') : target;

@@ -9,6 +9,7 @@ import { Kept, madeOf } from './kept.js';
 
 /** @typedef {import('./pool.js').Pool} Pool */
 /** @typedef {import('../symq.js').Symq} Symq */
+/** @typedef {import('./results.js').Results} Results */
 /** @typedef {import('../typescript.js').Found} Found */
 
 /**
@@ -29,6 +30,7 @@ import { Kept, madeOf } from './kept.js';
  * @typedef {object} Asked
  * @property {string} symq the program
  * @property {boolean} [strict] whether shared names are told
+ * @property {string} [result] what of the answer is kept, in a word
  */
 
 /**
@@ -39,6 +41,7 @@ import { Kept, madeOf } from './kept.js';
  * @property {() => Promise<Pool>} pool which isn't loaded where all trees are kept
  * @property {Asked | null} asked null where nobody is
  * @property {Symq | null} last what answers on the graph that was asked last
+ * @property {Results | null} results what is kept of answers
  */
 
 /** @param {Reading} reading @param {Found} typescript @returns {import('../tree/which.js').Which} */
@@ -47,18 +50,25 @@ function whichOf({ cache, typescript: ofProcess }, typescript) {
 }
 
 /** @param {Reading} reading @param {Found} typescript @returns {Promise<Pool>} */
-async function poolOf(reading, typescript) {
+export async function poolOf(reading, typescript) {
   const { Pool } = await import('./pool.js');
   const { bodies, ambient } = reading;
   return new Pool({ ...whichOf(reading, typescript), bodies, ambient });
 }
 
-/** @param {Kept | null} kept @param {Asked | null} asked @returns {Promise<Symq | null>} */
-async function lastOf(kept, asked) {
+/** @param {Kept | null} kept @param {Asked | null} asked @param {Results | null} results @returns {Promise<Symq | null>} which starts at once where no result is kept */
+async function lastOf(kept, asked, results) {
   const graph = asked ? kept?.lastGraph() : null;
   if (!asked || !graph) return null;
   const { Symq } = await import('../symq.js');
-  return new Symq(asked.symq, graph);
+  const last = new Symq(asked.symq, graph);
+  if (!results?.read()) last.start();
+  return last;
+}
+
+/** @param {Kept | null} kept @param {Asked | null} asked @returns {Promise<Results | null>} */
+async function resultsOf(kept, asked) {
+  return kept && asked?.result ? (await import('./results.js')).Results.of(kept, asked) : null;
 }
 
 /** @param {Reading} reading @param {Asked | null} asked null where nobody is @returns {Promise<Begun>} */
@@ -74,6 +84,7 @@ export async function begin(reading, asked) {
   const fresh = files.code().filter((it) => !kept?.modules.has(it) && (javascript || !isJavaScript(it)));
   if (fresh.length > 0) (await pool()).begin(fresh);
   else if (!reading.typescript) optimize(true);
-  const last = fresh.length > 0 ? null : await lastOf(kept, asked);
-  return { reading, files, kept, pool, asked, last };
+  const results = await resultsOf(kept, asked);
+  const last = fresh.length > 0 ? null : await lastOf(kept, asked, results);
+  return { reading, files, kept, pool, asked, last, results };
 }

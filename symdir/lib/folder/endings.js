@@ -1,6 +1,7 @@
 // Which file a path without its ending means, or with that of what it is compiled to, as Node, TypeScript and bundlers read it.
+import path from 'node:path';
 
-/** @typedef {import('./files.js').Files} Files */
+/** @typedef {{ has: (file: string) => boolean }} Known the files that may be meant */
 
 const TYPESCRIPT = ['.ts', '.tsx', '.d.ts', '.mts', '.cts', '.d.mts', '.d.cts'];
 const JAVASCRIPT = ['.js', '.jsx', '.mjs', '.cjs'];
@@ -23,7 +24,7 @@ export function sourcesOf(file) {
 const FOR_TYPESCRIPT = [...TYPESCRIPT, ...JAVASCRIPT, '.json'];
 const FOR_JAVASCRIPT = [...JAVASCRIPT, ...TYPESCRIPT, '.json'];
 
-/** @param {Files} files @param {string} bare @param {boolean} fromJavaScript @returns {string | null} the file of itself, or of the sources of what it names */
+/** @param {Known} files @param {string} bare @param {boolean} fromJavaScript @returns {string | null} the file of itself, or of the sources of what it names */
 function itself(files, bare, fromJavaScript) {
   const sources = sourcesOf(bare).find((it) => files.has(it)) ?? null;
   if (sources !== null && !fromJavaScript) return sources;
@@ -31,24 +32,29 @@ function itself(files, bare, fromJavaScript) {
 }
 
 /**
- * The file of a path: the sources of what it names, itself, and it with an ending; then those of `index` in it.
- * @param {Files} files
+ * The file of a path that may lack its ending: the sources of what it names, itself, and it with an ending.
+ * @param {Known} files
  * @param {string} at absolute
  * @param {boolean} fromJavaScript whether a module of JavaScript asks, for which JavaScript goes first
+ * @returns {string | null} null for what ends in a slash, too
+ */
+export function fileAt(files, at, fromJavaScript) {
+  if (at.endsWith('/')) return null;
+  return itself(files, at, fromJavaScript) ?? withEnding(files, at, fromJavaScript ? FOR_JAVASCRIPT : FOR_TYPESCRIPT);
+}
+
+/**
+ * The file of a path, or that of `index` in it.
+ * @param {Known} files
+ * @param {string} at absolute
+ * @param {boolean} fromJavaScript
  * @returns {string | null}
  */
 export function foundAt(files, at, fromJavaScript) {
-  const endings = fromJavaScript ? FOR_JAVASCRIPT : FOR_TYPESCRIPT;
-  const isFolder = at.endsWith('/');
-  const bare = isFolder ? at.slice(0, -1) : at;
-  if (!isFolder) {
-    const found = itself(files, bare, fromJavaScript) ?? withEnding(files, bare, endings);
-    if (found !== null) return found;
-  }
-  return withEnding(files, `${bare}/index`, endings);
+  return fileAt(files, at, fromJavaScript) ?? withEnding(files, path.posix.join(at, 'index'), fromJavaScript ? FOR_JAVASCRIPT : FOR_TYPESCRIPT);
 }
 
-/** @param {Files} files @param {string} bare @param {string[]} endings @returns {string | null} */
+/** @param {Known} files @param {string} bare @param {string[]} endings @returns {string | null} */
 function withEnding(files, bare, endings) {
   for (const it of endings) if (files.has(bare + it)) return bare + it;
   return null;

@@ -1,7 +1,7 @@
 // What a module exports by `export =`: the members of what stands behind it, as TypeScript lists them.
 import { isDefinition } from './folder.js';
 import { Names } from './names.js';
-import { endsOf } from './settle.js';
+import { endsOf } from './paths.js';
 
 /** @typedef {import('./folder.js').Folder} Folder */
 /** @typedef {import('./folder.js').Definition} Definition */

@@ -6,7 +6,8 @@ import { Symq } from '../symq.js';
 import { EXPORTED, KINDS, PRIVATE } from '../kinds.js';
 import { entriesOf } from './entries.js';
 import { nameOf, partsOf, piecesOf } from './graph.js';
-import { Settling, endsOf, isUnsettled } from './settle.js';
+import { endsOf } from './paths.js';
+import { Settling, isUnsettled } from './settle.js';
 import { Sources } from './sources.js';
 import { Temporary } from './temporary.js';
 import { Places } from './text.js';
@@ -27,11 +28,14 @@ export function isDefinition(it) {
 }
 
 export class Folder {
-  /** @param {Sources} sources @param {string[]} entries @param {Symq | null} last what answers on the graph that was asked last */
-  constructor(sources, entries, last) {
+  /** @param {Sources} sources @param {string[]} entries @param {Pick<import('./begin.js').Begun, 'last' | 'results'>} begun */
+  constructor(sources, entries, { last, results }) {
     this.sources = sources;
     this.entries = entries;
     this.last = last;
+    this.results = results;
+    /** The name of its graph. */
+    this.graph = '';
     /** @type {Symq | null} */
     this.symq = null;
     /** Whether shared names are told. */
@@ -44,6 +48,8 @@ export class Folder {
     this.places = new Map();
     /** @type {Map<string, Map<number, number[]>>} by module and start where in its list of declarations they are */
     this.tables = new Map();
+    /** @type {WeakMap<Definition, Declaration[]>} those of its range, where they were asked for */
+    this.ofRange = new WeakMap();
     /** @type {Map<string, string | null>} names of symbols in full, by number and module, where one range declares several */
     this.localNames = new Map();
     this.settling = new Settling(this);
@@ -59,7 +65,7 @@ export class Folder {
     await sources.read();
     try {
       if (sources.modules.size === 0) throw new Failure(sources.files.emptyText(), 3, 'source');
-      return new Folder(sources, entriesOf(sources, entry), begun.last);
+      return new Folder(sources, entriesOf(sources, entry), begun);
     } catch (error) {
       await sources.pool?.close();
       throw error;
@@ -70,15 +76,32 @@ export class Folder {
   open({ symq, strict }) {
     const parts = partsOf(this.sources);
     const name = nameOf(parts);
+    this.graph = name;
     if (this.last && name === this.sources.kept?.graph) this.symq = this.last;
     else {
       void this.last?.close();
       const graph = this.write(name, piecesOf(parts));
       this.symq = new Symq(symq, graph);
+      this.symq.start();
     }
     this.isStrict = strict ?? false;
     this.symq.progress = this.sources.reading.progress;
     this.keeping = this.sources.keep(name);
+  }
+
+  /** @param {unknown} of what it depends on besides the graph @returns {unknown[]} with what else does */
+  allOf(of) {
+    return [this.entries, this.sources.faults(), of];
+  }
+
+  /** @param {unknown} [of] what it depends on besides the graph @returns {any} what `keep` kept; undefined where nothing is kept */
+  kept(of) {
+    return this.results?.get(this.graph, this.allOf(of));
+  }
+
+  /** @param {unknown} value for the next run on the same graph @param {unknown} [of] what it depends on besides that */
+  keep(value, of) {
+    this.keeping = Promise.all([this.keeping, this.results?.put(this.graph, this.allOf(of), value)]).then(() => {});
   }
 
   /** @param {string} name @param {Buffer[]} pieces of the graph @returns {string} the file that has it */
@@ -162,7 +185,14 @@ export class Folder {
   }
 
   /** @param {Definition} it @returns {Declaration[]} those of its range, of which a pattern has several */
-  declarations({ module, start, end }) {
+  declarations(it) {
+    let found = this.ofRange.get(it);
+    if (!found) this.ofRange.set(it, (found = this.declarationsOf(it)));
+    return found;
+  }
+
+  /** @param {Definition} it @returns {Declaration[]} */
+  declarationsOf({ module, start, end }) {
     const all = this.sources.modules.get(module)?.parsed.declarations ?? [];
     const places = (this.tableOf(module, all).get(start) ?? []).filter((i) => all[i + 1] === end);
     const first = places.filter((i, k) => places.findIndex((it) => all[it + 3] === all[i + 3]) === k);
@@ -195,6 +225,7 @@ export class Folder {
 
   /** @param {Definition[]} definitions that an export leads to @returns {Definition[]} without those of a symbol that aren't exported, where others of it are: a type of the same name, say */
   exported(definitions) {
+    if (definitions.length < 2) return definitions;
     const found = new Set(definitions.filter((it) => this.declaration(it)?.isExported).map(keyOf));
     return definitions.filter((it) => !found.has(keyOf(it)) || this.declaration(it)?.isExported);
   }
@@ -207,13 +238,20 @@ export class Folder {
     return how === 'require' ? `import ${local} = require("${text}")` : `${how} * as ${local} from "${text}"`;
   }
 
-  /** @param {Definition} it @returns {Place} where its name stands */
-  defined(it) {
-    if (it.by) return { kind: 'namespace', ...this.place(it.module, it.start), by: { text: this.statementText(it.by), ...this.place(it.by.module, it.by.start) } };
-    const declaration = it.symbol === 0 ? null : this.declaration(it);
+  /** @param {Definition} it @returns {string} what it is, for which no file is read */
+  kindOf(it) {
+    if (it.by) return 'namespace';
     // what has a symbol and no declaration is a property that is assigned to a function, or the value of JSON
     const kind = it.symbol === 0 || it.module.endsWith('.json') ? 'module' : 'property';
-    return { kind: declaration?.kind ?? kind, ...this.place(it.module, declaration?.name ?? it.start) };
+    return (it.symbol === 0 ? null : this.declaration(it))?.kind ?? kind;
+  }
+
+  /** @param {Definition} it @returns {Place} where its name stands */
+  defined(it) {
+    const kind = this.kindOf(it);
+    if (it.by) return { kind, ...this.place(it.module, it.start), by: { text: this.statementText(it.by), ...this.place(it.by.module, it.by.start) } };
+    const declaration = it.symbol === 0 ? null : this.declaration(it);
+    return { kind, ...this.place(it.module, declaration?.name ?? it.start) };
   }
 }
 

@@ -21,7 +21,7 @@ import { isPart, partOf, replaceFile } from '../write.js';
  * @property {string[] | null} equals the parts of the name behind `export =`; none where something else stands there
  * @property {string[]} modules that it declares by `declare module "name"`
  * @property {boolean} isScript whether it is no module, so that what it declares is there for all
- * @property {import('../tree/converter.js').Block[]} blocks of namespaces that have `export { .. }`
+ * @property {import('../tree/converter.js').Block[]} blocks of namespaces that have `export { .. }` or `export import`
  * @property {number} start of the first statement, in bytes
  * @property {string[]} namespaces texts of `import a = require(..)` that it was parsed for as ones of modules without `export =`
  * @property {number} nodes how many the tree has
@@ -50,7 +50,7 @@ function cacheFolder() {
 /** @param {import('../typescript.js').Found} found @returns {string} where its parser is kept for this version of Node, without an ending */
 export function madeOf({ file, version }) {
   const { size, mtimeMs } = statSync(file);
-  return path.join(cacheFolder(), `parser-${version}-${process.version}-${hashOf(JSON.stringify([file, size, mtimeMs]))}`);
+  return path.join(cacheFolder(), `parser-${version}-${process.version}-${hashOf(JSON.stringify(['what parses', file, size, mtimeMs]))}`);
 }
 
 /** @returns {string} changes with what makes of a text what is kept */
@@ -145,7 +145,7 @@ export class Kept {
       await mkdir(path.dirname(this.file), { recursive: true });
       await writeFile(part, Buffer.concat([length, header, ...[...modules.values()].map(({ text }) => text)]));
       await rename(part, this.file);
-      prune(path.dirname(this.file), (it) => it.startsWith(`${this.base}.`) && it.endsWith('.graph') && it !== this.graphFile(graph));
+      prune(path.dirname(this.file), (it) => it.startsWith(`${this.base}.`) && /\.(graph|result)$/.test(it) && !it.startsWith(`${this.base}.${graph}.`));
     } catch {
       // a cache folder that can't be written costs time alone
       await rm(part, { force: true }).catch(() => {});

@@ -2,9 +2,9 @@
 
 /** @typedef {import('./sources.js').Sources} Sources */
 
-/** @param {import('./sources.js').Module} module of JavaScript @returns {boolean} whether it has statements that export */
-function hasExports({ parsed: { references, text } }) {
-  return references.some((it) => it.how.startsWith('export')) || text.includes('"kind":"Export') || text.includes('"kind":"TsExport');
+/** @param {import('./sources.js').Module} module of JavaScript without `export =` @returns {boolean} whether it has statements that export: there is a node for each */
+function hasExports({ parsed: { text } }) {
+  return text.includes('"kind":"Export');
 }
 
 const JSON_REASON = 'is JSON';

@@ -4,7 +4,7 @@ import path from 'node:path';
 import { bestPattern, starOf } from './aliases.js';
 import { foundAt } from './endings.js';
 
-/** @typedef {import('./files.js').Files} Files */
+/** @typedef {import('./endings.js').Known} Known */
 
 /** In `exports` the first of a condition's object that is one of these counts. */
 const CONDITIONS = new Set(['types', 'import', 'module', 'node', 'deno', 'bundler', 'default', 'require']);
@@ -40,7 +40,7 @@ export function tableTargets(table, key) {
 /**
  * The file that a target of a package means; where that isn't built yet, the source that it would be built from: what stands
  * under `src` or the package itself in place of the folder of what is built.
- * @param {Files} files
+ * @param {Known} files
  * @param {string} folder
  * @param {string} target
  * @param {boolean} fromJavaScript
@@ -63,19 +63,21 @@ function mains(json) {
 
 /**
  * The file that a package means by its name, or by its name and a path.
- * @param {Files} files
+ * @param {Known} files
  * @param {string} folder of the package
  * @param {any} json its package.json, `{}` where it has none
  * @param {string} sub the path, empty for the package
  * @param {boolean} fromJavaScript
+ * @param {boolean} [isStrict] whether `exports`, where there are any, alone count, and not what stands beside them
  * @returns {string | null}
  */
-export function packageFile(files, folder, json, sub, fromJavaScript) {
+export function packageFile(files, folder, json, sub, fromJavaScript, isStrict = false) {
   if (json.exports !== undefined && json.exports !== null) {
     for (const it of tableTargets(exportsTable(json.exports), sub ? `./${sub}` : '.')) {
       const file = inPackage(files, folder, it, fromJavaScript);
       if (file) return file;
     }
+    if (isStrict) return null;
   }
   if (sub) return inPackage(files, folder, sub, fromJavaScript);
   for (const it of mains(json)) {
@@ -87,7 +89,7 @@ export function packageFile(files, folder, json, sub, fromJavaScript) {
 
 /**
  * Each file that users of a package may import.
- * @param {Files} files
+ * @param {Known} files
  * @param {string} folder
  * @param {any} json
  * @returns {{ found: string[], targets: string[] }} files, and all that it names, there or not

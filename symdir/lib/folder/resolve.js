@@ -6,7 +6,7 @@ import { fileURLToPath } from 'node:url';
 import { bestPattern, importMap, mappedText, pathsFor, typeScriptPaths } from './aliases.js';
 import { isJavaScript } from '../language.js';
 import { dependencies, packageFile, tableTargets } from './packages.js';
-import { foundAt } from './endings.js';
+import { fileAt } from './endings.js';
 import { isFolder, withSlashes } from './files.js';
 
 /**
@@ -22,6 +22,8 @@ export class Resolver {
   /** @param {import('./files.js').Files} files @param {import('./configs.js').Configs} configs */
   constructor(files, configs) {
     this.files = files;
+    /** @type {import('./endings.js').Known} those that have types */
+    this.typed = { has: (it) => /\.[mc]?tsx?$/.test(it) && files.has(it) };
     this.configs = configs;
     /** @type {Map<string, string> | null} */
     this.named = null;
@@ -80,11 +82,14 @@ export class Resolver {
 
   /** @param {string} from @param {string} at absolute @returns {Target | null} */
   at(from, at) {
-    const found = foundAt(this.files, at, isJavaScript(from));
-    if (found) return { file: found };
-    const json = this.configs.value(path.posix.join(at, 'package.json'));
-    const file = json && packageFile(this.files, at.replace(/\/$/, ''), json, '', isJavaScript(from));
+    const file = fileAt(this.files, at, isJavaScript(from)) ?? this.inDirectory(from, at);
     return file ? { file } : null;
+  }
+
+  /** @param {string} from @param {string} at absolute @returns {string | null} what its package.json names, where `exports` don't count, or its index */
+  inDirectory(from, at) {
+    const json = this.configs.value(path.posix.join(at, 'package.json'));
+    return packageFile(this.files, at, { ...json, exports: undefined }, '', isJavaScript(from));
   }
 
   /** @param {string} from @param {string} text a URL of a file @returns {Target | null} null where it names another machine, or is no path */
@@ -144,22 +149,22 @@ export class Resolver {
     return this.isKnown(folder, name) ? { external: `npm:${text}` } : null;
   }
 
-  /** @param {string} at @param {string} sub @param {string} from @returns {string | null} */
-  inFolder(at, sub, from) {
+  /** @param {string} at @param {string} sub @param {string} from @param {import('./endings.js').Known} [files] @returns {string | null} */
+  inFolder(at, sub, from, files = this.files) {
     const json = this.configs.value(path.posix.join(at, 'package.json')) ?? this.configs.value(path.posix.join(at, 'deno.json')) ?? {};
-    return packageFile(this.files, at, json, sub, isJavaScript(from));
+    return packageFile(files, at, json, sub, isJavaScript(from), files === this.typed);
   }
 
-  /** @param {string} folder @param {string} name @param {string} sub @param {string} from @returns {string | null} in node_modules, here or above */
+  /** @param {string} folder @param {string} name @param {string} sub @param {string} from @returns {string | null} in node_modules, here or above; for TypeScript what has types goes first, wherever it is */
   installed(folder, name, sub, from) {
-    const types = `@types/${name.replace(/^@/, '').replace('/', '__')}`;
-    for (let at = folder; ; at = path.posix.dirname(at)) {
-      for (const it of [name, types]) {
-        const found = this.inFolder(path.posix.join(at, 'node_modules', it), sub, from);
+    const folders = [...nodeModules(folder)].flatMap((it) => [name, typesOf(name)].map((one) => path.posix.join(it, one)));
+    for (const files of isJavaScript(from) ? [this.files] : [this.typed, this.files]) {
+      for (const it of folders) {
+        const found = this.inFolder(it, sub, from, files);
         if (found) return found;
       }
-      if (at === path.posix.dirname(at)) return null;
     }
+    return null;
   }
 
   /** @param {string} folder @param {string} name @returns {boolean} whether a package.json here or above says that the package is needed, or its folder is there */
@@ -170,6 +175,19 @@ export class Resolver {
       if (at === path.posix.dirname(at)) return false;
     }
   }
+}
+
+/** @param {string} folder @returns {Generator<string>} the folders of packages that it sees, the nearest first */
+function* nodeModules(folder) {
+  for (let at = folder; ; at = path.posix.dirname(at)) {
+    yield path.posix.join(at, 'node_modules');
+    if (at === path.posix.dirname(at)) return;
+  }
+}
+
+/** @param {string} name of a package @returns {string} that of the package with its types, where it has none itself */
+function typesOf(name) {
+  return `@types/${name.replace(/^@/, '').replace('/', '__')}`;
 }
 
 /**

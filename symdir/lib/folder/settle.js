@@ -2,6 +2,7 @@
 // a name that a module with `export =` lacks is one of what stands behind it, and a name that may be there isn't told as lacking.
 import { Open } from './open.js';
 import { isDefinition } from './folder.js';
+import { endsOf, visitPaths } from './paths.js';
 
 /** @typedef {import('./folder.js').Folder} Folder */
 /** @typedef {import('./folder.js').Definition} Definition */
@@ -10,15 +11,14 @@ import { isDefinition } from './folder.js';
 /** So many modules with `export =` may lead from one to the next. */
 const MOST_STEPS = 16;
 
-/** @param {Entry} entry @returns {boolean} whether it ends the path and isn't what TypeScript makes of it yet */
-export function isUnsettled(entry) {
-  if ('next' in entry) return entry.next.some(isUnsettled);
-  return isDefinition(entry) ? 'star' in entry : entry.kind === 'part' && entry.why === undefined;
+/** @param {Entry} end of a path @returns {boolean} whether it isn't what TypeScript makes of it yet */
+function isUnsettledEnd(end) {
+  return isDefinition(end) ? 'star' in end : end.kind === 'part' && end.why === undefined;
 }
 
-/** @param {Entry[]} entries @returns {Entry[]} the ends of the paths, in order */
-export function endsOf(entries) {
-  return entries.flatMap((it) => ('next' in it ? endsOf(it.next) : [it]));
+/** @param {Entry} entry @returns {boolean} whether a path ends that isn't what TypeScript makes of it yet */
+export function isUnsettled(entry) {
+  return endsOf([entry]).some(isUnsettledEnd);
 }
 
 /** @param {Entry} entry that lacks a name @returns {string[]} the name and the parts behind it, among which symq has it where they are looked for in a whole module */
@@ -51,12 +51,18 @@ export class Settling {
 
   /** @param {Entry} entry @param {string} before the module before it @param {Map<Entry, Question>} asked is given the ends that may stand behind `export =` */
   collect(entry, before, asked) {
-    if ('next' in entry) return entry.next.forEach((/** @type {Entry} */ it) => this.collect(it, entry.module, asked));
-    if (isDefinition(entry) || entry.kind !== 'part' || entry.module === before) return;
-    const equals = this.folder.sources.modules.get(entry.module)?.parsed.equals;
+    visitPaths([entry], before, (it, last) => {
+      if (!('next' in it) && !isDefinition(it) && it.kind === 'part' && it.module !== last) this.collectEnd(it, asked);
+      return it.module;
+    });
+  }
+
+  /** @param {Entry} end that lacks a name @param {Map<Entry, Question>} asked is given it if it may stand behind `export =` */
+  collectEnd(end, asked) {
+    const equals = this.folder.sources.modules.get(end.module)?.parsed.equals;
     if (!equals || equals.length === 0) return;
     const [name, ...parts] = equals;
-    asked.set(entry, { entry, reference: ['qualified', name, 1, [...parts, ...wantedOf(entry)]] });
+    asked.set(end, { entry: end, reference: ['qualified', name, 1, [...parts, ...wantedOf(end)]] });
   }
 
   /** @param {Question[]} asked @param {number} steps @returns {Promise<Map<Entry, Entry[]>>} what some of the ends are */
@@ -74,13 +80,29 @@ export class Settling {
 
   /** @param {Entry} entry @param {string} before @param {Map<Entry, Entry[]>} found @returns {Entry} */
   made(entry, before, found) {
-    if (!isUnsettled(entry)) return entry;
-    if ('next' in entry) return { ...entry, next: entry.next.map((/** @type {Entry} */ it) => this.made(it, entry.module, found)) };
-    if (isDefinition(entry)) return this.wholeModule(entry);
-    const next = found.get(entry);
-    if (next) return { module: entry.module, parts: entry.parts, next };
-    const why = entry.module === before ? this.open.jsonReason(entry.module) : this.open.whyOpen(entry.module, entry.name);
-    return { ...entry, why: why ?? '' };
+    const whole = [entry];
+    const waiting = [{ entries: whole, before }];
+    for (let last = waiting.pop(); last; last = waiting.pop()) {
+      const { entries, before: from } = last;
+      entries.forEach((it, i) => {
+        if (!('next' in it)) {
+          if (isUnsettledEnd(it)) entries[i] = this.madeEnd(it, from, found);
+          return;
+        }
+        entries[i] = { ...it, next: [...it.next] };
+        waiting.push({ entries: entries[i].next, before: it.module });
+      });
+    }
+    return whole[0];
+  }
+
+  /** @param {Entry} end @param {string} before @param {Map<Entry, Entry[]>} found @returns {Entry} what TypeScript makes of it */
+  madeEnd(end, before, found) {
+    if (isDefinition(end)) return this.wholeModule(end);
+    const next = found.get(end);
+    if (next) return { module: end.module, parts: end.parts, next };
+    const why = end.module === before ? this.open.jsonReason(end.module) : this.open.whyOpen(end.module, end.name);
+    return { ...end, why: why ?? '' };
   }
 
   /** @param {Entry} entry a definition that stands for a module @returns {Entry} the module */

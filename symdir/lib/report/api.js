@@ -1,5 +1,5 @@
 // The public API as Markdown, or as a page.
-import { counted } from '../output.js';
+import { byName, counted } from '../output.js';
 import { firstSentence } from '../surface/docs.js';
 import { withName } from './described.js';
 import { baselineMarkdown } from './findings-markdown.js';
@@ -13,11 +13,6 @@ import { code, document, placeCode, prose, table } from './markdown.js';
 
 /** Markdown for all tables together, in characters. */
 const ROOM = 56_000;
-
-/** @param {{ name: string }} a @param {{ name: string }} b */
-export function byName(a, b) {
-  return a.name.toLowerCase().localeCompare(b.name.toLowerCase(), 'en') || (a.name < b.name ? -1 : 1);
-}
 
 /** @param {Described} it @returns {string[]} cells */
 function cells(it) {

@@ -27,9 +27,9 @@ function memberOf(folder, docs, { name, kind, files, signature, definitions = []
   return { name, kind, signature: signature ?? '', doc: docs.ofAll(definitions), file, line, column };
 }
 
-/** @param {Folder} folder @param {PublicName[]} names @returns {Promise<Described[]>} */
-export async function described(folder, names) {
-  const { items, signatures } = await surfaceAndTrees(folder);
+/** @param {Folder} folder @param {Promise<{ names: PublicName[] }>} asked @returns {Promise<Described[]>} */
+export async function described(folder, asked) {
+  const [{ items, signatures }, { names }] = await Promise.all([surfaceAndTrees(folder), asked]);
   const docs = new Docs(signatures);
   /** @type {Map<string, Item[]>} by the entry and the name that it exports */
   const groups = new Map();
@@ -47,7 +47,7 @@ export async function described(folder, names) {
   });
 }
 
-const MODIFIERS = /^((?:(?:static|readonly|abstract|protected|declare|accessor|get|set)\b ?)*)([^]*)$/;
+const MODIFIERS = /^((?:(?:static|readonly|const|abstract|protected|declare|accessor|get|set)\b ?)*)([^]*)$/;
 
 /** @param {string} signature @returns {{ before: string, after: string }} what is written before the name, with a space behind it, and what after, with one before it if it takes one */
 export function aroundName(signature) {

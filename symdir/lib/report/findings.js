@@ -52,7 +52,7 @@ export function dependencyFinding({ name, file, line, column }) {
 export function cycleFinding({ modules, shortest, cut }) {
   const [{ file, line, column, how, text }] = cut.statements;
   const around = [...shortest.map((it) => it.from), shortest[0].from].join(' > ');
-  const opened = cut.opens === modules.length ? 'without this import there is no cycle' : `without this import ${counted(cut.opens, 'module')} are in no cycle`;
+  const opened = cut.opens === modules.length ? 'without this import there is no cycle' : `without this import ${counted(cut.opens, 'module')} ${cut.opens === 1 ? 'is' : 'are'} in no cycle`;
   return { rule: 'cycles/cycle', file, line, column, name: modules.join(' '), message: `${counted(modules.length, 'module')} import each other (${around}); ${opened}: ${how} "${text}"` };
 }
 

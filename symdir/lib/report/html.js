@@ -1,14 +1,13 @@
 // The public API as a page: one file that needs no network. Its names can be read without its script, which searches them.
 import { createHash } from 'node:crypto';
 import { readFileSync } from 'node:fs';
-import path from 'node:path';
 
 import { endText } from '../folder/ends.js';
-import { counted, placeText } from '../output.js';
-import { byName } from './api.js';
+import { byName, counted, placeText } from '../output.js';
 import { aroundName, withName } from './described.js';
 import { docHtml } from './doc-html.js';
 import { escaped } from './escape.js';
+import { titleOf } from './title.js';
 
 /** @typedef {import('../cli.js').Run} Run */
 /** @typedef {import('../folder/folder.js').Folder} Folder */
@@ -99,13 +98,6 @@ function restHtml({ open, declared, unlisted, shared }) {
     ...shared.map((it) => `${it.name} of ${it.module} is re-exported via export * from ${it.owners.map(({ file }) => file).join(', ')}`),
   ];
   return rows.length > 0 ? `<section><h2>Also exported</h2><ul class="findings">${rows.map((it) => `<li>${escaped(it)}</li>`).join('\n')}</ul></section>` : '';
-}
-
-/** @param {Folder} folder @returns {string} the package's name and version, or the directory's name */
-function titleOf({ sources }) {
-  const own = sources.configs.value(path.posix.join(sources.folder, 'package.json'));
-  const name = typeof own?.name === 'string' ? own.name : path.posix.basename(sources.folder);
-  return typeof own?.version === 'string' ? `${name} ${own.version}` : name;
 }
 
 /** @param {Answer} answer @returns {string} */

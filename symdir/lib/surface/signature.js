@@ -102,11 +102,19 @@ export class Signatures {
     return node?.kind === 'FnExpr' ? this.ofFunction(node) : '';
   }
 
+  /** @param {Node} node a class or an enum @param {number} name @param {RegExp} word that may stand before what declares it @returns {string} the word, where it does */
+  wordBefore({ range: [start] }, name, word) {
+    return word.exec(oneLine(this.slice(start, this.tree.nodes[name].range[0])))?.[1] ?? '';
+  }
+
   /** @param {Node} node a class @returns {string} */
-  ofClass({ class: inner }) {
+  ofClass(node) {
+    const { class: inner, ident } = node;
+    // without a name it stands behind `export default`, and begins there
+    const abstract = ident === undefined ? /^abstract\b/.exec(this.slice(node.range[0], node.range[1]))?.[0] ?? '' : this.wordBefore(node, ident, /\b(abstract)(?: declare)? class$/);
     const { type_params: params, super_class: above, super_type_params: args, implements: list = [] } = this.tree.nodes[inner];
     const extended = above === undefined ? '' : `extends ${this.text(above)}${this.text(args)}`;
-    return spaced(this.text(params), extended, this.listed('implements', list));
+    return spaced(abstract, this.text(params), extended, this.listed('implements', list));
   }
 
   /** @param {string} word @param {number[]} list @returns {string} */
@@ -142,6 +150,7 @@ function property({ key, type_ann: type, value, range: [start] }) {
 const OF = {
   FnDecl(node) { return this.ofFunction(node); },
   FnExpr(node) { return this.ofFunction(node); },
+  TsEnumDecl(node) { return this.wordBefore(node, node.id, /\b(const) enum$/); },
   ClassDecl(node) { return this.ofClass(node); },
   ClassExpr(node) { return this.ofClass(node); },
   ClassMethod({ key, function: inner, range: [start] }) {
@@ -150,6 +159,8 @@ const OF = {
   Constructor(node) {
     const [start, end] = node.range;
     const words = /^[^(]*/.exec(this.slice(start, end))?.[0] ?? '';
+    // nobody outside knows its parameters
+    if (node.accessibility === 'private') return 'private ()';
     return spaced(oneLine(words).replace(MODIFIERS, '').replace(/ ?constructor$/, ''), this.called(start + Buffer.byteLength(words), node));
   },
   ClassProp: property,

@@ -3,7 +3,9 @@ import { endOf } from '../folder/ends.js';
 import { equalsMembers } from '../folder/equals.js';
 import { isDefinition } from '../folder/folder.js';
 import { Names } from '../folder/names.js';
+import { endsOf } from '../folder/paths.js';
 import { Tree } from '../uses/tree.js';
+import { Namespaces, isNamespace, pathOf } from './namespaces.js';
 import { Signatures } from './signature.js';
 import { TypeWords } from './words.js';
 
@@ -31,6 +33,11 @@ const NO_SYMBOL = -1;
 
 /** @typedef {{ module: string, symbol: number, above: number }} Member a symbol, and that of what it is a member of */
 
+/** @param {Definition} it @returns {string} */
+function symbolKey({ symbol, module }) {
+  return `${symbol} ${module}`;
+}
+
 /** @param {string[]} texts @returns {string} each once */
 function joined(texts) {
   return [...new Set(texts)].join('+');
@@ -45,6 +52,10 @@ class Gathering {
     this.trees = new Map();
     /** @type {Map<string, Signatures>} */
     this.written = new Map();
+    /** @type {Map<string, Namespaces>} */
+    this.namespaces = new Map();
+    /** @type {WeakMap<Item, Map<string, Set<number>>>} by module the nodes that declare it */
+    this.nodes = new WeakMap();
   }
 
   /** @param {string} module @returns {Tree} without nodes where it isn't read */
@@ -76,16 +87,34 @@ class Gathering {
     return some.map((it) => it.text).filter((it) => it !== '').join(' & ');
   }
 
-  /** @param {Definition} it of a member @returns {boolean} whether the class or the namespace keeps it to itself */
-  isHidden(it) {
-    const { module, start, end } = it;
-    if (this.folder.declaration(it)?.isPrivate) return true;
-    const signatures = this.signatures(module);
-    const { tree } = signatures;
-    let at = signatures.nodeAt(start, end);
-    if (at < 0 || tree.isDeclaration) return false;
-    while (/^Var\w+ decls?$/.test(tree.stand(at))) at = tree.above[at];
-    return tree.stand(at) === 'TsModuleBlock body' && tree.nodes[at].kind !== 'ExportDecl';
+  /** @param {string} module @returns {Namespaces} */
+  namespacesOf(module) {
+    let found = this.namespaces.get(module);
+    if (!found) this.namespaces.set(module, (found = new Namespaces(this.treeOf(module))));
+    return found;
+  }
+
+  /** @param {Item} item @returns {Map<string, Set<number>>} by module the nodes that declare it */
+  nodesOf(item) {
+    let found = this.nodes.get(item);
+    if (found) return found;
+    this.nodes.set(item, (found = new Map()));
+    for (const { module, start, end } of item.definitions ?? []) {
+      const at = this.signatures(module).declarationAt(start, end);
+      if (at === null) continue;
+      if (!found.has(module)) found.set(module, new Set());
+      /** @type {Set<number>} */ (found.get(module)).add(at);
+    }
+    return found;
+  }
+
+  /** @param {Definition} it of a member @param {Set<number>} owners the nodes of what it is a member of @returns {string[] | null} the names of the namespaces between; null where the class or a namespace keeps it to itself */
+  between(it, owners) {
+    const declaration = this.folder.declaration(it);
+    // whether a class can be constructed is public
+    if (declaration?.isPrivate && declaration.kind !== 'constructor') return null;
+    const at = this.signatures(it.module).nodeAt(it.start, it.end);
+    return at < 0 ? [] : this.namespacesOf(it.module).between(at, owners);
   }
 
   /** @param {Definition[]} definitions @returns {Member[]} */
@@ -96,17 +125,51 @@ class Gathering {
 
   /** @param {Item} of @param {Member} member @param {Definition[]} definitions @returns {Item[]} none where it is hidden */
   member(of, { module, symbol, above }, definitions) {
-    const shown = definitions.filter((it) => it.module === module && it.symbol === symbol && !this.isHidden(it));
+    const owners = this.nodesOf(of).get(module) ?? new Set();
+    const own = definitions.filter((it) => it.module === module && it.symbol === symbol).map((it) => ({ it, between: this.between(it, owners) }));
+    const shown = own.flatMap(({ it, between }) => (between === null ? [] : [it]));
     if (shown.length === 0) return [];
-    const [full, own] = [symbol, above].map((it) => `${this.names.of(module)[it]}`);
-    const kind = joined(shown.map((it) => this.folder.defined(it).kind));
-    const name = of.name + memberName(full.slice(own.length));
+    const [full, prefix] = [symbol, above].map((it) => `${this.names.of(module)[it]}`);
+    const kind = joined(shown.map((it) => this.folder.kindOf(it)));
+    const between = own.find((it) => it.between !== null)?.between ?? [];
+    const name = of.name + memberName(withNames(full.slice(prefix.length), between));
     return [{ ...of, name, kind, files: [this.folder.short(module)], signature: this.signatureOf(shown), definitions: shown }];
   }
 
-  /** @param {Item} of @param {Definition[]} definitions @returns {Item[]} */
-  enumMembers(of, definitions) {
-    return definitions.flatMap(({ module, start, end, decl }) => {
+  /** @param {Item[]} members @returns {Item[]} each name once: what several blocks of a namespace declare has a symbol in each */
+  merged(members) {
+    /** @type {Map<string, Item[]>} */
+    const groups = new Map();
+    for (const it of members) {
+      const group = groups.get(it.name);
+      if (group) group.push(it);
+      else groups.set(it.name, [it]);
+    }
+    return [...groups.values()].map((all) => {
+      const [first, ...more] = all;
+      if (more.length === 0) return first;
+      const definitions = all.flatMap((it) => it.definitions ?? []);
+      const kind = joined(all.flatMap((it) => it.kind.split('+')));
+      return { ...first, kind, files: [...new Set(all.flatMap((it) => it.files))].sort(), signature: this.signatureOf(definitions), definitions };
+    });
+  }
+
+  /** @param {Item} item @returns {{ module: string, path: string[] }[]} what blocks of the namespace export by another name, or of elsewhere: those names, with that of the namespace before each */
+  aliases(item) {
+    const modules = [...new Set(item.definitions?.map((it) => it.module))];
+    return modules.flatMap((module) => {
+      const blocks = this.folder.sources.modules.get(module)?.parsed.blocks ?? [];
+      if (blocks.length === 0) return [];
+      const { tree } = this.signatures(module);
+      const namespaces = [...this.nodesOf(item).get(module) ?? []].filter((it) => isNamespace(tree.nodes[it]));
+      const paths = new Set(namespaces.map((it) => pathOf(tree, it)));
+      return blocks.filter((it) => paths.has(it.name)).flatMap(({ name, exported }) => exported.map((it) => ({ module, path: [...name.split('.'), it] })));
+    });
+  }
+
+  /** @param {Item} of @returns {Item[]} */
+  enumMembers(of) {
+    return (of.definitions ?? []).flatMap(({ module, start, end, decl }) => {
       const all = this.signatures(module);
       const at = all.declarationAt(start, end);
       const node = at === null ? null : all.tree.nodes[at];
@@ -132,6 +195,11 @@ function memberName(name) {
     .replace(/#?\["([\p{ID_Start}$_][\p{ID_Continue}$]*)"\]/gu, '#$1');
 }
 
+/** @param {string} name of a member, as symq gives it @param {string[]} between the namespaces that it is in @returns {string} with the names of these: for symq a later part of `A.B` has the first one's name */
+function withNames(name, between) {
+  return between.length === 0 ? name : ['', ...between, ...name.split('.').slice(between.length + 1)].join('.');
+}
+
 /** @param {Tree} tree @param {number} at @returns {boolean | null} whether a function has a body; null of what is none */
 function hasBody({ nodes }, at) {
   const { function: inner, body, kind } = nodes[at];
@@ -155,7 +223,7 @@ async function exportsOf(folder) {
  * @property {[string, number]} symbol that is exported, with its module
  * @property {(Definition | Unresolved)[]} [leaves] of what stands behind `export =`: they are known
  * @property {boolean} isType
- * @property {string[]} within the modules that these namespaces are
+ * @property {string[]} within the modules that these namespaces are, and the symbols of namespaces in a module
  */
 
 class Levels {
@@ -186,10 +254,9 @@ class Levels {
   /** @param {Wanted} wanted @param {(Definition | Unresolved)[]} leaves @returns {Item} */
   item({ entry, name, top, isType }, leaves) {
     const definitions = this.folder.exported(leaves.filter(isDefinition));
-    const defined = definitions.map((it) => this.folder.defined(it));
     const outside = leaves.map((it) => endOf(this.folder, it)).flatMap((it) => (it === null ? [] : [it.what === 'external' ? it.name : '?']));
-    const files = [...new Set([...defined.map((it) => it.file).sort(), ...outside.sort()])];
-    const kind = joined(defined.map((it) => it.kind)) || '?';
+    const files = [...new Set([...definitions.map((it) => this.folder.short(it.module)).sort(), ...outside.sort()])];
+    const kind = joined(definitions.map((it) => this.folder.kindOf(it))) || '?';
     return { entry, name, top, kind, isType, files: files.length > 0 ? files : ['?'], signature: this.all.signatureOf(definitions), definitions };
   }
 
@@ -205,14 +272,33 @@ class Levels {
     const leaves = wanted.map((it, i) => it.leaves ?? asked[i]);
     const definitions = leaves.map((it) => this.folder.exported(it.filter(isDefinition)));
     await this.names.read(definitions.flat().map((it) => it.module));
-    const members = definitions.map((it) => this.all.symbolsOf(it));
+    // of a namespace that exports itself by another name members aren't listed again
+    const isAgain = definitions.map((it, i) => it.some((one) => wanted[i].within.includes(symbolKey(one))));
+    const members = definitions.map((it, i) => (isAgain[i] ? [] : this.all.symbolsOf(it)));
     const ends = (await this.folder.leaves(members.flat().map((it) => [it.module, it.symbol]))).map((it) => it.filter(isDefinition));
     let next = 0;
-    const items = wanted.flatMap((it, i) => {
+    const items = wanted.map((it, i) => {
       const item = this.item(it, leaves[i]);
-      return [item, ...this.all.enumMembers(item, definitions[i]), ...members[i].flatMap((one) => this.all.member(item, one, ends[next++]))];
+      const own = this.all.merged(members[i].flatMap((one) => this.all.member(item, one, ends[next++])));
+      return [item, ...own].flatMap((one) => [one, ...this.all.enumMembers(one)]);
     });
-    return { items, inner: wanted.flatMap((it, i) => this.inner(it, definitions[i])) };
+    const aliased = await this.aliased(wanted.flatMap((it, i) => (isAgain[i] ? [] : [{ wanted: it, items: items[i] }])));
+    return { items: items.flat(), inner: [...wanted.flatMap((it, i) => this.inner(it, definitions[i])), ...aliased] };
+  }
+
+  /** @param {{ wanted: Wanted, items: Item[] }[]} found names with their members @returns {Promise<Wanted[]>} what namespaces among these export by another name */
+  async aliased(found) {
+    const rows = found.flatMap(({ wanted, items }) => {
+      const all = items.flatMap((item) => this.all.aliases(item).map((it) => ({ ...it, item, name: `${item.name}.${it.path[it.path.length - 1]}` })));
+      if (all.length === 0) return [];
+      const known = new Set(items.map((it) => it.name));
+      return all.filter(({ name }) => !known.has(name)).map(({ module, path, item, name }) => {
+        const keys = [items[0], item].flatMap((it) => it.definitions ?? []).map(symbolKey);
+        return { module, path, to: { ...wanted, name, within: [...wanted.within, ...keys] } };
+      });
+    });
+    const ends = await this.folder.resolve(rows.map(({ module, path: [first, ...parts] }) => [module, ['qualified', first, 1, parts]]));
+    return rows.map(({ module, to }, i) => ({ ...to, symbol: /** @type {[string, number]} */ ([module, 0]), leaves: endsOf(ends[i]) }));
   }
 }
 

@@ -30,7 +30,7 @@ import { wellFormed } from './offsets.js';
  * @property {string[] | null} equals the parts of the name behind `export =`; none where something else stands there
  * @property {string[]} modules that it declares by `declare module "name"`
  * @property {boolean} isScript whether it is no module, so that what it declares is there for all
- * @property {import('./converter.js').Block[]} blocks of namespaces that have `export { .. }`
+ * @property {import('./converter.js').Block[]} blocks of namespaces that have `export { .. }` or `export import`
  * @property {number} start of the first statement, in bytes
  */
 

@@ -27,10 +27,10 @@ import { MODULE_SCOPE, Scope, textOf } from './scopes.js';
  */
 
 /**
- * A block of a namespace that has `export { .. }`.
+ * A block of a namespace that has `export { .. }` or `export import`.
  * @typedef {object} Block
  * @property {string} name of the namespace, in full
- * @property {string[]} exported names that stand there
+ * @property {string[]} exported names that these give
  * @property {string[]} hidden names that it declares and TypeScript doesn't export, though it is ambient
  */
 

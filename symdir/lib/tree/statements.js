@@ -90,13 +90,19 @@ function exportsWithoutWord({ flags, statements }) {
   return (flags & AMBIENT) !== 0 && !statements.some((it) => ts.isExportDeclaration(it) || ts.isExportAssignment(it));
 }
 
-/** @param {Converter} c @param {import('typescript').ModuleBlock} block notes what its `export { .. }` name, where it has any */
+/** @param {Converter} c @param {import('typescript').Statement} it of a namespace @returns {string[]} the names that it exports by `export { .. }` or `export import` */
+function exportedBy(c, it) {
+  if (ts.isImportEqualsDeclaration(it)) return hasModifier(it, K.ExportKeyword) ? [textOf(it.name)] : [];
+  return ts.isExportDeclaration(it) && it.exportClause && ts.isNamedExports(it.exportClause) ? it.exportClause.elements.map(({ name }) => moduleName(c, name)) : [];
+}
+
+/** @param {Converter} c @param {import('typescript').ModuleBlock} block notes what its statements without a declaration export, where there are any */
 function noteBlock(c, { flags, statements }) {
-  if (!statements.some(ts.isExportDeclaration)) return;
-  const exported = statements.flatMap((it) => (
-    ts.isExportDeclaration(it) && it.exportClause && ts.isNamedExports(it.exportClause) ? it.exportClause.elements.map(({ name }) => moduleName(c, name)) : []));
-  if (exported.length === 0) return;
-  const hidden = (flags & AMBIENT) === 0 ? [] : statements.flatMap(declaredNames).filter((it) => !exported.includes(it));
+  const exported = statements.flatMap((it) => exportedBy(c, it));
+  const isListed = statements.some(ts.isExportDeclaration);
+  if (exported.length === 0 && !isListed) return;
+  const own = statements.filter((it) => !hasModifier(it, K.ExportKeyword)).flatMap(declaredNames);
+  const hidden = (flags & AMBIENT) === 0 || !isListed ? [] : own.filter((it) => !exported.includes(it));
   c.blocks.push({ name: c.path.join('.'), exported, hidden });
 }
 

@@ -13,18 +13,30 @@ import { usedTypeScript } from './which.js';
 /** Where the last block of the parser begins, and what each block ends with. */
 const LAST_BLOCK = '\n    (function (IncrementalParser) {';
 const BLOCK_END = '\n})(ts || (ts = {}));\n';
-/** The parser's blocks are shorter than this. */
+/** What stands in version 6 one behind the other: the beginning, what is exported, the version, and the part that parses. */
+const FUNCTION = ['var ts = {}; ((module) => {\n', '\nmodule.exports = __toCommonJS(', '\nvar versionMajorMinor = "6.', '\n// src/compiler/parser.ts\n'];
+/** What each part begins with, and the end of all. */
+const PART = '\n// src/';
+const FUNCTION_END = '\n})({ get exports() { return ts; }, set exports(v) { ts = v; module.exports = v; } })\n';
+/** All up to the parser's end is shorter than this. */
 const FIRST_BYTES = 4_000_000;
+
+/** @param {string} text @param {string[]} words @returns {number} where the last of them stands behind the others, in this order; -1 where it doesn't */
+function follow(text, words) {
+  return words.reduce((at, it) => (at < 0 ? at : text.indexOf(it, at)), 0);
+}
 
 /**
  * @param {string} text of TypeScript, as a module of CommonJS
- * @returns {string | null} of 4.8 and 4.9, where each file is a block that adds to `ts`, the blocks up to that of the parser, which
- * need no later one to parse: a quarter of all; null of newer ones, which are one function
+ * @returns {string | null} what of it is needed to parse, a quarter of all: of 4.8 and 4.9, where each file is a block that adds to `ts`,
+ * the blocks up to that of the parser; of 6, which is one function where each file is a part, the parts up to that; null of others
  */
 export function parserOf(text) {
-  const last = text.indexOf(LAST_BLOCK);
-  const end = last < 0 ? -1 : text.indexOf(BLOCK_END, last);
-  return end < 0 ? null : `${text.slice(0, end + BLOCK_END.length)}module.exports = ts;\n`;
+  const block = follow(text, [LAST_BLOCK, BLOCK_END]);
+  if (block >= 0) return `${text.slice(0, block + BLOCK_END.length)}module.exports = ts;\n`;
+  const parser = follow(text, FUNCTION);
+  const part = parser < 0 ? -1 : text.indexOf(PART, parser + 1);
+  return part < 0 ? null : text.slice(0, part) + FUNCTION_END;
 }
 
 /** @param {string} file @param {BufferEncoding} encoding @returns {string} what of it parses, or all */

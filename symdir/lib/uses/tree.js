@@ -17,11 +17,8 @@
  * @property {boolean} isType whether no code is made of what stands there
  */
 
-/** What stands in these makes no code. */
-const ERASED = new Set([
-  'Type', 'TsTypeAnn', 'TsTypeQuery', 'TsImportType', 'TsInterfaceDecl', 'TsTypeAliasDecl', 'TsTypeParamDecl', 'TsTypeParamInstantiation',
-  'TsExprWithTypeArgs', 'TsIndexSignature',
-]);
+/** What stands in these makes no code: types, and what holds names that aren't behind one. */
+const ERASED = new Set(['Type', 'TsTypeQuery', 'TsImportType', 'TsInterfaceDecl', 'TsExprWithTypeArgs']);
 /** A name that is directly behind the field of these is declared there. */
 const DECLARING = new Set([
   'ImportNamed local', 'ImportDefault local', 'ImportNamespace local', 'ClassDecl ident', 'ClassExpr ident', 'FnDecl ident', 'FnExpr ident',
@@ -47,6 +44,8 @@ export class Tree {
     /** @type {string[]} the field behind which it stands there */
     this.field = [];
     this.erased = new Uint8Array(this.nodes.length);
+    /** @type {Buffer | undefined} the text, where it is looked at */
+    this.bytes = undefined;
     this.nodes.forEach((node, i) => this.note(node, i));
   }
 
@@ -81,7 +80,16 @@ export class Tree {
     if (DECLARING.has(this.stand(i))) return true;
     let at = i;
     while (PATTERNS.has(this.stand(at))) at = this.above[at];
-    return BINDING.has(this.stand(at));
+    return BINDING.has(this.stand(at)) || this.isBoundInParts(at);
+  }
+
+  /** @param {number} i @returns {boolean} whether it is a parameter of a function's type, or what `catch` names */
+  isBoundInParts(i) {
+    if (this.field[i] !== 'children' || !/^BindingIdent$|Pat$/.test(this.nodes[i].kind)) return false;
+    const { kind, range: [start] } = this.nodes[this.above[i]];
+    if (kind === 'Type') return true;
+    this.bytes ??= Buffer.from(this.text);
+    return /^catch\b/.test(this.bytes.toString('utf8', start, start + 'catch('.length));
   }
 
   /** @param {number} i a name @returns {boolean} whether it is looked up in its scope: it is no declaration, no key, and no name of another module */

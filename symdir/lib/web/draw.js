@@ -53,10 +53,18 @@ export class Drawing {
     this.linkTo = linkTo;
     this.web = web;
     this.modules = [...new Set([...web.entries, ...web.edges.flatMap((it) => [it.from, it.to]), ...web.owned.keys()])];
+    /** @type {Map<string, number>} how many modules have each name of a file */
+    this.bases = new Map();
+    for (const it of this.modules) this.bases.set(this.base(it), (this.bases.get(this.base(it)) ?? 0) + 1);
     this.boxes = this.group();
     this.isBig = this.boxes.length > BIG;
     /** @type {Map<string, Box>} */
     this.boxOf = new Map(this.boxes.flatMap((it) => it.modules.map((module) => [module, it])));
+  }
+
+  /** @param {string} module @returns {string} the name of its file */
+  base(module) {
+    return path.posix.basename(this.folder.short(module));
   }
 
   /** @param {string} module @returns {string} the folder of its file */
@@ -96,9 +104,8 @@ export class Drawing {
 
   /** @param {string} module @returns {string} a name that no other module of the picture has */
   title(module) {
-    const short = this.folder.short(module);
-    const base = path.posix.basename(short);
-    return this.modules.some((it) => it !== module && path.posix.basename(this.folder.short(it)) === base) ? short : base;
+    const base = this.base(module);
+    return this.bases.get(base) === 1 ? base : this.folder.short(module);
   }
 
   /** @param {string} module */
@@ -128,7 +135,7 @@ export class Drawing {
   many({ folder, modules }) {
     const rows = modules.slice(0, ROWS).map((it) => {
       const names = this.names(it);
-      return `<TR><TD ALIGN="LEFT" HREF="${escaped(this.link(it))}" TITLE="${tip(names)}"><FONT POINT-SIZE="9">${escaped(path.posix.basename(this.folder.short(it)))}</FONT></TD>`
+      return `<TR><TD ALIGN="LEFT" HREF="${escaped(this.link(it))}" TITLE="${tip(names)}"><FONT POINT-SIZE="9">${escaped(this.base(it))}</FONT></TD>`
         + `<TD ALIGN="LEFT"><FONT POINT-SIZE="9" COLOR="#444444">${escaped(shortened(names, 40)) || ' '}</FONT></TD></TR>`;
     });
     const rest = modules.slice(ROWS);

@@ -1,6 +1,7 @@
 // The web of exports: from the entries on, which module passes which names on to which.
 import { isDefinition } from '../folder/folder.js';
 import { endOf } from '../folder/ends.js';
+import { visitPaths } from '../folder/paths.js';
 
 /** @typedef {import('../folder/folder.js').Folder} Folder */
 /** @typedef {import('../folder/folder.js').Export} Export */
@@ -9,6 +10,7 @@ import { endOf } from '../folder/ends.js';
 /** @typedef {{ module: string, text: string, isStar: boolean }} Lost an unresolved name or module */
 /** @typedef {{ to: string, name: string }} Taken a name of another module */
 /** @typedef {{ from: string, to: string, name: string, symbol?: number }} Step of a path, by an import or a re-export that is the symbol */
+/** @typedef {{ module: string | null, symbol: number | undefined }} Before a module of a path: the one before it, and the symbol of that which leads there */
 
 /**
  * @typedef {object} Web
@@ -59,14 +61,16 @@ class Gathering {
     return module;
   }
 
-  /** @param {any} entry of a path @param {string} name @param {string | null} last the module before it @param {number} [symbol] of that, which leads there */
-  walk(entry, name, last, symbol) {
-    // a statement that stands for a whole module leads there from its own
-    const from = entry.by ? this.step(entry.by.module, name, last, symbol) : last;
-    const here = this.step(entry.module, name, from, entry.by ? undefined : symbol);
-    if (isDefinition(entry)) this.owns(entry.module, name, this.folder.defined(entry).line);
-    else if ('next' in entry) entry.next.forEach((/** @type {any} */ it) => this.walk(it, name, here, entry.decl?.[0]));
-    else this.end(entry);
+  /** @param {any[]} entries of paths @param {string} name */
+  walk(entries, name) {
+    visitPaths(entries, /** @type {Before} */ ({ module: null, symbol: undefined }), (it, { module, symbol }) => {
+      // a statement that stands for a whole module leads there from its own
+      const from = it.by ? this.step(it.by.module, name, module, symbol) : module;
+      const here = this.step(it.module, name, from, it.by ? undefined : symbol);
+      if (isDefinition(it)) this.owns(it.module, name, this.folder.defined(it).line);
+      else if (!('next' in it)) this.end(it);
+      return { module: here, symbol: it.decl?.[0] };
+    });
   }
 
   /** @param {any} leaf that is no definition */
@@ -86,7 +90,7 @@ class Gathering {
     all.forEach((it, i) => {
       const chain = [...it.chain.map(([module]) => module), it.module];
       chain.slice(1).forEach((to, at) => this.edge(chain[at], to, true, it.name));
-      for (const entry of paths[i]) this.walk(entry, it.name, null);
+      this.walk(paths[i], it.name);
     });
   }
 

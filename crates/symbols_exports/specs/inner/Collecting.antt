@@ -92,17 +92,27 @@ abbrev pub candidates_along : List (ModuleId × List ℕ) → ModuleId → List 
 candidates_along re_exports exporter exported =
     map (candidate_along re_exports exporter) (filter (λ (x : List ℕ × SymbolId). not (bytes_eq x.0 default_export_name && has_statements re_exports)) exported)
 
+-- whether a name comes along an `export *`
+abbrev pub is_along_stars : ResolvedExportView → Bool
+is_along_stars view = has_statements view.statements
+
+-- the exporters with a later one, unless the first isn't along an `export *`: such a name isn't shared
+abbrev pub with_later_exporter : {A : Type 0} → (A → Bool) → List A → A → List A
+with_later_exporter is_along [] x = x ∷ []
+with_later_exporter is_along (first ∷ exporters) x = if is_along first then first ∷ exporters ++ x ∷ [] else first ∷ exporters
+
 -- the groups with one more exporter, after those of its name
-abbrev pub with_exporter : {A : Type 0} → (A → List ℕ) → List (NameWithExporters A) → A → List (NameWithExporters A)
-with_exporter name [] x = record { name = name x; exporters = x ∷ [] } ∷ []
-with_exporter name (group ∷ rest) x = if bytes_eq (name x) group.name then record { name = group.name; exporters = group.exporters ++ x ∷ [] } ∷ rest
-    else group ∷ with_exporter name rest x
+abbrev pub with_exporter : {A : Type 0} → (A → List ℕ) → (A → Bool) → List (NameWithExporters A) → A → List (NameWithExporters A)
+with_exporter name is_along [] x = record { name = name x; exporters = x ∷ [] } ∷ []
+with_exporter name is_along (group ∷ groups) x = if bytes_eq (name x) group.name
+    then record { name = group.name; exporters = with_later_exporter is_along group.exporters x } ∷ groups
+    else group ∷ with_exporter name is_along groups x
 
 abbrev pub name_of_view : ResolvedExportView → List ℕ
 name_of_view view = view.name
 
 abbrev pub with_exporters : List (NameWithExporters ResolvedExportView) → List ResolvedExportView → List (NameWithExporters ResolvedExportView)
-with_exporters groups candidates = fold (with_exporter name_of_view) groups candidates
+with_exporters groups candidates = fold (with_exporter name_of_view is_along_stars) groups candidates
 
 -- what was collected, with the local exports of a module along a chain, and with its candidates if they are stored
 abbrev pub collected_with_exports : Bool → List (ModuleId × List ℕ) → ModuleId → List (List ℕ × SymbolId) → CollectedView → CollectedView

@@ -7,7 +7,7 @@ use Rattle.indexmap.specs.IndexMap.{get_by_text}
 use Rattle.symbols_ast.specs.declared.graph.faults.GraphFault.{GraphFault}
 use Rattle.symbols_ast.specs.declared.graph.faults.GraphFault.TheVariants as fault
 use Rattle.symbols_ast.specs.Graph.{GraphView}
-use Rattle.symbols_graph.specs.Repeats.{IsRepeatAt}
+use Rattle.symbols_graph.specs.Repeats.{IsRepeatedEntryAt}
 use Rattle.symbols_graph.specs.GraphFaults.{IsFaultAt, graph_fault_rank}
 use Rattle.symbols_graph.specs.Tables.{StringMap}
 
@@ -18,7 +18,7 @@ IsFirstWhere {A} P (Some x) = (i : ℕ) × P i x × ((j : ℕ) (y : A) → j < i
 
 -- No entry is repeated.
 abbrev pub HasNoRepeat : {A : Type 0} → List A → Type 0
-HasNoRepeat {A} xs = (i : ℕ) (x : A) → IsRepeatAt xs i x → ⊥
+HasNoRepeat {A} xs = (i : ℕ) (x : A) → IsRepeatedEntryAt xs i x → ⊥
 
 -- Entry i is x, and an earlier entry is equal to x by eq.
 abbrev pub IsRepeatBy : {A : Type 0} → (A → A → Bool) → List A → ℕ → A → Type 0

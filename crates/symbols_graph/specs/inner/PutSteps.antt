@@ -5,14 +5,14 @@ use Rattle.symbols_ast.specs.declared.graph.faults.GraphFault.TheVariants as fau
 use Rattle.symbols_ast.specs.Graph.{ModuleView}
 use Rattle.symbols_graph.specs.GraphFaults.{HasFirstTreeFault}
 use Rattle.symbols_graph.specs.PutModules.{IsFirstPutFault}
-use Rattle.symbols_graph.specs.Repeats.{IsRepeatAt}
+use Rattle.symbols_graph.specs.Repeats.{IsRepeatedEntryAt}
 use Rattle.symbols_graph.specs.inner.CheckSteps.{IsFirstWhere}
 
 -- The fault names the first repeated specifier text of this referrer; or an allocation failed.
 abbrev pub IsFirstRepeatedText : List ℕ → List (List ℕ × List ℕ) → GraphFault → Type 0
 IsFirstRepeatedText specifier resolved fault.OutOfMemory = ⊤
 IsFirstRepeatedText specifier resolved (fault.DuplicateResolution referrer specifier_text) =
-    (specifier ≡ string_bytes referrer) × IsFirstWhere (IsRepeatAt (map (λ r. r.0) resolved)) (Some (string_bytes specifier_text))
+    (specifier ≡ string_bytes referrer) × IsFirstWhere (IsRepeatedEntryAt (map (λ r. r.0) resolved)) (Some (string_bytes specifier_text))
 IsFirstRepeatedText specifier resolved _ = ⊥
 
 -- The fault is that of the module's tree; or an allocation failed.

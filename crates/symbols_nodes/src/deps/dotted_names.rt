@@ -6,11 +6,11 @@ ghost use Rattle.std.specs.Option.{option_map, option_copied, option_and_then};
 ghost use Rattle.symbols_ast.specs.NodeRefs.{node_view, node_in, kind_of};
 ghost use Rattle.symbols_ast.specs.Nodes.{children};
 ghost use Rattle.symbols_ast.specs.WellFormed.{IsWellFormedTree};
-ghost use Rattle.symbols_nodes.specs.NameViews.{name_part_view, member_expr_name_view};
-ghost use Rattle.symbols_nodes.specs.DottedNames.{entity_name_view, name_part_of_member_prop};
+ghost use Rattle.symbols_nodes.specs.NameViews.{dotted_name_part_view, member_expr_name_view};
+ghost use Rattle.symbols_nodes.specs.DottedNames.{entity_name_view, dotted_name_part_of_member_prop};
 ghost use Rattle.symbols_nodes.specs.DottedNames.{entity_name, member_expr_name};
 ghost use Rattle.symbols_nodes.specs.Expando.{str_literal_value};
-ghost use Rattle.symbols_nodes.specs.Readings.{node_of_greater_number, read_node_of_greater_number};
+ghost use Rattle.symbols_nodes.specs.Readings.{node_of_greater_number, evaluate_node_of_greater_number};
 
 use std::alloc::{AllocError, Global};
 use std::borrow::CowStr;
@@ -84,7 +84,7 @@ pub enum Part<'a> {
 impl<'a> Part<'a> {
     /// Returns the part as text. Only the text of a private name is copied.
     fn to_text(self, alloc: Global) -> Result<CowStr<'a>, AllocError>
-        ensures { IfOk result (λ text. cow_str_bytes text ≡ name_part_view self.entry) }
+        ensures { IfOk result (λ text. cow_str_bytes text ≡ dotted_name_part_view self.entry) }
     {
         match self {
             Part::Text(text) => Ok(CowStr::Borrowed(text)),
@@ -109,15 +109,15 @@ fn str_literal_value(kind: &Kind) -> Option<&str>
 
 fn bracket_text<'a>(prop: NodeRef<'a>, expr: NodeId) -> Option<&'a str>
     ensures { option_copied result
-        ≡ option_and_then str_literal_value (read_node_of_greater_number kind_of (node_view prop.entry) expr) }
+        ≡ option_and_then str_literal_value (evaluate_node_of_greater_number kind_of (node_view prop.entry) expr) }
 {
     str_literal_value(node_of_greater_number(prop, expr)?.kind())
 }
 
 /// Returns the property as a part of a dotted name. It is `None` for a computed key other than a
 /// string.
-fn name_part_of_member_prop<'a>(prop: NodeRef<'a>) -> Option<Part<'a>>
-    ensures { option_map name_part_view result ≡ name_part_of_member_prop (node_view prop.entry) }
+fn dotted_name_part_of_member_prop<'a>(prop: NodeRef<'a>) -> Option<Part<'a>>
+    ensures { option_map dotted_name_part_view result ≡ dotted_name_part_of_member_prop (node_view prop.entry) }
 {
     match prop.kind() {
         Kind::Expr(Expr::IdentName { name }) => Some(Part::Text(name.as_str())),
@@ -130,10 +130,10 @@ fn name_part_of_member_prop<'a>(prop: NodeRef<'a>) -> Option<Part<'a>>
 /// Returns the property of this number as a part of a dotted name. It is `None` if the number is
 /// not greater than the node's, or the property is a computed key other than a string.
 pub fn prop_part_below<'a>(node: NodeRef<'a>, prop: NodeId) -> Option<Part<'a>>
-    ensures { option_map name_part_view result ≡ read_node_of_greater_number
-        name_part_of_member_prop (node_view node.entry) prop }
+    ensures { option_map dotted_name_part_view result ≡ evaluate_node_of_greater_number
+        dotted_name_part_of_member_prop (node_view node.entry) prop }
 {
-    name_part_of_member_prop(node_of_greater_number(node, prop)?)
+    dotted_name_part_of_member_prop(node_of_greater_number(node, prop)?)
 }
 
 /// A dotted name in expressions: its first identifier and the parts after it.

@@ -6,7 +6,7 @@ ghost use Rattle.std.specs.Str.{chars};
 ghost use Rattle.symbols_ast.specs.NodeRefs.{node_view, kind_of, range_of};
 ghost use Rattle.symbols_nodes.specs.Expando.{Expando, is_identifier_start, is_identifier_part};
 ghost use Rattle.symbols_nodes.specs.Expando.{is_identifier, is_simple_assignment};
-ghost use Rattle.symbols_nodes.specs.Expando.{is_ident, str_literal_value, prop_text, prop_name};
+ghost use Rattle.symbols_nodes.specs.Expando.{is_ident, str_literal_value, prop_name_by_kind, prop_name};
 ghost use Rattle.symbols_nodes.specs.Expando.{expando_of_assignment};
 ghost use Rattle.symbols_nodes.specs.ExpandoViews.{expando_property_view};
 ghost use Rattle.symbols_nodes.specs.inner.ExpandoViews.{expando_view};

@@ -6,12 +6,12 @@ ghost use Rattle.std.specs.Cow.{cow_str_bytes};
 ghost use Rattle.symbols_ast.specs.NodeRefs.{node_view, kind_of};
 ghost use Rattle.symbols_ast.specs.ChildFields.{ident_of, id_of, key_of, expr_of};
 ghost use Rattle.symbols_nodes.specs.NodeViews.{export_decl_view, symbol_node_view};
-ghost use Rattle.symbols_nodes.specs.NodeNames.{ident_or_literal_text, child_text, key_text};
+ghost use Rattle.symbols_nodes.specs.NodeNames.{ident_or_literal_text, child_text, key_name_by_kind};
 ghost use Rattle.symbols_nodes.specs.NodeNames.{key_name};
-ghost use Rattle.symbols_nodes.specs.NodeNames.{binding_name, param_text, param_name};
-ghost use Rattle.symbols_nodes.specs.NodeNames.{default_decl_text};
+ghost use Rattle.symbols_nodes.specs.NodeNames.{binding_name, param_name_by_kind, param_name};
+ghost use Rattle.symbols_nodes.specs.NodeNames.{default_decl_name_by_kind};
 ghost use Rattle.symbols_nodes.specs.NodeNames.{default_decl_name, export_decl_name};
-ghost use Rattle.symbols_nodes.specs.NodeNames.{name_unless_class_key, node_name};
+ghost use Rattle.symbols_nodes.specs.NodeNames.{name_of_node_not_class_member, node_name};
 
 use crate::nodes::refs::{ExportDeclRef, SymbolNodeRef};
 use std::alloc::{AllocError, Global};
@@ -59,9 +59,9 @@ fn borrowed_text<'a>(text: Option<&'a str>) -> Option<CowStr<'a>>
 
 /// Returns the name of a key; `None` for a big integer, and for a computed key that is no name or
 /// literal.
-fn key_text<'a>(alloc: Global, key: NodeRef<'a>) -> Result<Option<CowStr<'a>>, AllocError>
+fn key_name_by_kind<'a>(alloc: Global, key: NodeRef<'a>) -> Result<Option<CowStr<'a>>, AllocError>
     ensures { IfOk result (λ name. option_map cow_str_bytes name
-        ≡ option_and_then (key_text (node_view key.entry)) (kind_of (node_view key.entry))) }
+        ≡ option_and_then (key_name_by_kind (node_view key.entry)) (kind_of (node_view key.entry))) }
 {
     match key.kind() {
         Kind::Expr(Expr::PrivateName { name }) => {
@@ -82,7 +82,7 @@ fn key_name<'a>(alloc: Global, node: NodeRef<'a>) -> Result<Option<CowStr<'a>>, 
         (λ name. option_map cow_str_bytes name ≡ key_name (node_view node.entry)) }
 {
     match node.key() {
-        Some(key) => key_text(alloc, key),
+        Some(key) => key_name_by_kind(alloc, key),
         None => Ok(None),
     }
 }
@@ -135,8 +135,8 @@ fn export_decl_name<'a>(decl: ExportDeclRef<'a>) -> Option<&'a str>
 
 /// Returns the name of a node whose name is in the tree as it is. It is `None` for class members
 /// named by a key, which `maybe_name` handles.
-fn name_unless_class_key<'a>(node: SymbolNodeRef<'a>) -> Option<&'a str>
-    ensures { option_copied result ≡ name_unless_class_key (symbol_node_view node.entry) }
+fn name_of_node_not_class_member<'a>(node: SymbolNodeRef<'a>) -> Option<&'a str>
+    ensures { option_copied result ≡ name_of_node_not_class_member (symbol_node_view node.entry) }
 {
     match node {
         SymbolNodeRef::ExportDecl(_, decl) => export_decl_name(decl),
@@ -197,7 +197,7 @@ impl<'a> SymbolNodeRef<'a> {
             SymbolNodeRef::AutoAccessor(node)
             | SymbolNodeRef::ClassMethod(node)
             | SymbolNodeRef::ClassProp(node) => key_name(alloc, node),
-            _ => Ok(borrowed_text(name_unless_class_key(self))),
+            _ => Ok(borrowed_text(name_of_node_not_class_member(self))),
         }
     }
 }

@@ -13,7 +13,7 @@ ghost use Rattle.symbols_nodes.specs.NodeTests.{is_ts_namespace, is_exported_var
 ghost use Rattle.symbols_nodes.specs.NodeTests.{is_module};
 ghost use Rattle.symbols_nodes.specs.NodeTests.{has_export_keyword, has_direct_body};
 ghost use Rattle.symbols_nodes.specs.NodeTests.{has_function_body};
-ghost use Rattle.symbols_nodes.specs.NodeTests.{exported_has_body, default_has_body, has_body};
+ghost use Rattle.symbols_nodes.specs.NodeTests.{exported_decl_has_body, default_decl_has_body, has_body};
 ghost use Rattle.symbols_nodes.specs.NodeTests.{is_method};
 
 use crate::nodes::refs::{ExportDeclRef, SymbolNodeRef};
@@ -42,8 +42,8 @@ fn has_function_body(node: NodeRef<'_>) -> bool
     }
 }
 
-fn default_has_body(decl: NodeRef<'_>) -> bool
-    ensures { result ≡ default_has_body (node_view decl.entry) (kind_of (node_view decl.entry)) }
+fn default_decl_has_body(decl: NodeRef<'_>) -> bool
+    ensures { result ≡ default_decl_has_body (node_view decl.entry) (kind_of (node_view decl.entry)) }
 {
     match decl.kind() {
         Kind::Decl(Decl::FnExpr { .. }) => has_function_body(decl),
@@ -92,7 +92,7 @@ impl ExportDeclRef<'_> {
     /// always have one, variables and type aliases never; functions and namespaces have one if it
     /// is written.
     pub fn has_body(&self) -> bool
-        ensures { result ≡ exported_has_body (export_decl_view self.now) }
+        ensures { result ≡ exported_decl_has_body (export_decl_view self.now) }
     {
         match self {
             ExportDeclRef::Class(_) | ExportDeclRef::TsEnum(_) | ExportDeclRef::TsInterface(_) => {
@@ -241,7 +241,7 @@ impl SymbolNodeRef<'_> {
             | SymbolNodeRef::TsInterface(_) => true,
             SymbolNodeRef::ExportDecl(_, decl) => decl.has_body(),
             SymbolNodeRef::ExportDefaultDecl(node) => match node.decl() {
-                Some(decl) => default_has_body(decl),
+                Some(decl) => default_decl_has_body(decl),
                 None => false,
             },
             SymbolNodeRef::FnDecl(node) | SymbolNodeRef::ClassMethod(node) => {

@@ -9,9 +9,15 @@ use Rattle.symbols_paths.specs.declared.path_builder.LinkStep.{LinkStep}
 use Rattle.symbols_paths.specs.declared.path_builder.Segment.{Segment}
 use Rattle.symbols_paths.specs.declared.path_builder.Segment.TheFolds.{fold-Segment}
 use Rattle.symbols_paths.specs.declared.path_builder.Segment.TheOpen as segment
+use Rattle.symbols_paths.specs.declared.path_builder.Segment.TheVariants as whole_segment
+use Rattle.symbols_paths.specs.declared.path_builder.OpenedSegment.{OpenedSegment}
+use Rattle.symbols_paths.specs.declared.path_builder.OpenedSegment.TheVariants as opened_segment
 use Rattle.symbols_paths.specs.declared.path_builder.PathBuilder.{PathBuilder}
 use Rattle.symbols_paths.specs.declared.path_builder.PathBuilder.TheFolds.{fold-PathBuilder}
 use Rattle.symbols_paths.specs.declared.path_builder.PathBuilder.TheOpen as builder
+use Rattle.symbols_paths.specs.declared.path_builder.PathBuilder.TheVariants as whole_builder
+use Rattle.symbols_paths.specs.declared.path_builder.OpenedBuilder.{OpenedBuilder}
+use Rattle.symbols_paths.specs.declared.path_builder.OpenedBuilder.TheVariants as opened_builder
 use Rattle.symbols_paths.specs.PathTrees.{QualifiedNameParts, LinkHead, PathForest, leaf, no_trees, forest_of_tree, joined_forests, link_unless_empty}
 use Rattle.symbols_paths.specs.Derived.{link_head_with_parts}
 use Rattle.symbols_paths.specs.Views.{decl_by_specifier, strings_view, path_leaf_of_end, module_of_end, concat_module_ids}
@@ -20,6 +26,15 @@ use Rattle.symbols_paths.specs.inner.Views.{symbol_of_unique_id}
 -- the remaining parts: those of the list from `first` on
 abbrev pub remaining_parts : SharedParts → QualifiedNameParts
 remaining_parts parts = drop parts.first (strings_view (rc_slice_items parts.list))
+
+-- the segment or the builder that was taken apart
+abbrev pub segment_of_opened : OpenedSegment → Segment
+segment_of_opened (opened_segment.LinkStep step) = whole_segment.LinkStep step
+segment_of_opened (opened_segment.WithParts parts inner) = whole_segment.WithParts parts inner
+
+abbrev pub builder_of_opened : OpenedBuilder → PathBuilder
+builder_of_opened (opened_builder.End segments end) = whole_builder.End segments end
+builder_of_opened (opened_builder.Fork segments branches last) = whole_builder.Fork segments branches last
 
 -- the head of a step's link
 abbrev pub link_head_of_step : RootView → LinkStep → LinkHead

@@ -1,8 +1,11 @@
 -- Paths with their definitions replaced.
-use Rattle.std.specs.Prelude.{List, [], ◌∷◌, ◌++◌}
-use Rattle.symbols_paths.specs.PathTrees.{QualifiedNameParts, DefinitionView, definition, unresolved, PathTree, PathForest, leaf}
+use Rattle.std.specs.Prelude.{ℕ, List, [], ◌∷◌, ◌++◌}
+use Rattle.symbols_paths.specs.PathTrees.{SymbolBySpecifier, DeclBySpecifier, QualifiedNameParts, DefinitionView, definition, unresolved, PathTree}
+use Rattle.symbols_paths.specs.PathTrees.{PathForest, leaf}
 use Rattle.symbols_paths.specs.PathTrees.{link, no_trees, more_trees, forest_of_tree, joined_forests, link_unless_empty}
+use Rattle.symbols_paths.specs.PartTargets.{SearchTargets}
 use Rattle.symbols_paths.specs.Derived.{link_head_with_parts}
+use Rattle.symbols_paths.specs.Choice.{IsOutcomeOfPartsInTree}
 
 -- the definitions, from left to right
 abbrev mutual
@@ -34,3 +37,12 @@ abbrev mutual
   pub rebuilt : QualifiedNameParts → PathForest → List PathForest → PathForest × List PathForest
   rebuilt ps no_trees gs = (no_trees, gs)
   rebuilt ps (more_trees t f) gs = let r = rebuilt_tree ps t gs in let q = rebuilt ps f r.1 in (joined_forests r.0 q.0, q.1)
+
+-- each definition replaced, in order
+pub data ReplacesInOrder (routes : SearchTargets) (limit : ℕ) (running : List DeclBySpecifier) : List SymbolBySpecifier → List ℕ → QualifiedNameParts
+    → List DefinitionView → List PathForest → List SymbolBySpecifier → Type 0 where
+  no_step : {visited : List SymbolBySpecifier} {p : List ℕ} {ps : QualifiedNameParts} → ReplacesInOrder routes limit running visited p ps [] [] visited
+  a_step : {visited mid after : List SymbolBySpecifier} {p : List ℕ} {ps : QualifiedNameParts} {x : DefinitionView} {xs : List DefinitionView}
+      {g : PathForest} {gs : List PathForest}
+      → IsOutcomeOfPartsInTree routes limit running visited p ps (leaf (definition x)) g mid → ReplacesInOrder routes limit running mid p ps xs gs after
+      → ReplacesInOrder routes limit running visited p ps (x ∷ xs) (g ∷ gs) after

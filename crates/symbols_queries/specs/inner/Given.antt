@@ -10,11 +10,11 @@ use Rattle.symbols_answers.specs.Stored.{AreAnswerModulesStored, AreQueryModules
 -- an answer to a question on a stored module
 pub record IsQuestionAnswerReturned (old new : RootView) (specifier : List ℕ) (question : QuestionView) (answer : AnswerView) : Type 0 where
   pub answers : question_answer old.rules old.graph specifier question ≡ Some answer
-  pub means : IsAnswerToQuestion old.rules old.graph specifier question answer
+  pub is_right_answer : IsAnswerToQuestion old.rules old.graph specifier question answer
   pub stored : AreAnswerModulesStored new specifier question answer
 
 -- an answer to a query
 pub record IsQueryAnswerReturned (old new : RootView) (query : QueryView) (answer : AnswerView) : Type 0 where
   pub answers : query_answer old.rules old.graph query ≡ Some answer
-  pub means : IsAnswerToQuery old.rules old.graph query answer
+  pub is_right_answer : IsAnswerToQuery old.rules old.graph query answer
   pub stored : AreQueryModulesStored new query answer

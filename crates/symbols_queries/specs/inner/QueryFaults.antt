@@ -6,7 +6,7 @@ use Rattle.symbols_root.specs.Roots.{RootView, widest_limits, IsStoringFault}
 use Rattle.symbols_root.specs.Growing.{HasGrown}
 use Rattle.symbols_answers.specs.Questions.{QuestionView}
 use Rattle.symbols_answers.specs.QueryAnswers.{question_answer}
-use Rattle.symbols_queries.specs.QueryFaults.{IsNeededByQuestion}
+use Rattle.symbols_queries.specs.QueryFaults.{IsOtherModuleNeededByQuestion}
 
 -- the stored module has no such symbol: nothing changes
 pub record IsUnknownSymbolQuestionFault (old new : RootView) (specifier : List ℕ) (question : QuestionView) (fault : SymbolsFault) : Type 0 where
@@ -15,14 +15,15 @@ pub record IsUnknownSymbolQuestionFault (old new : RootView) (specifier : List �
   pub unchanged : new ≡ old
 
 -- there is an answer; another module that it may need is refused, or an allocation failed
-pub record IsModuleForQuestionRefused (old new : RootView) (specifier : List ℕ) (question : QuestionView) (fault : SymbolsFault) : Type 0 where
+pub record IsOtherModuleForQuestionRefused (old new : RootView) (specifier : List ℕ) (question : QuestionView) (fault : SymbolsFault) : Type 0 where
   pub has_answer : question_answer old.rules old.graph specifier question ≢ None
   pub needed : Option (List ℕ)
-  pub is_needed : (v : List ℕ) → needed ≡ Some v → IsNeededByQuestion old.rules old.graph specifier question v
+  pub is_needed : (v : List ℕ) → needed ≡ Some v → IsOtherModuleNeededByQuestion old.rules old.graph specifier question v
   pub refused : IsStoringFault new needed fault
 
 abbrev pub IsQuestionFault : RootView → RootView → List ℕ → QuestionView → SymbolsFault → Type 0
-IsQuestionFault old new specifier question fault = IsUnknownSymbolQuestionFault old new specifier question fault ⊎ IsModuleForQuestionRefused old new specifier
+IsQuestionFault old new specifier question fault = IsUnknownSymbolQuestionFault old new specifier question fault
+    ⊎ IsOtherModuleForQuestionRefused old new specifier
     question fault
 
 -- after a question on a stored module: stored modules stay, a fault has one of these reasons, and by the widest limits it is `OutOfMemory`

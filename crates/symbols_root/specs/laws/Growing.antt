@@ -17,7 +17,7 @@ use Rattle.symbols_root.specs.Growing.{HasGrown}
 
 -- a root has grown from itself
 pub has_grown_refl : (root : RootView) → HasGrown root root
-has_grown_refl root = record { graph = refl; rules = refl; limits = refl; added = []; stored = sym (append-nil root.stored); once = λ h. h }
+has_grown_refl root = record { graph = refl; rules = refl; limits = refl; added = []; stored = sym (append-nil root.stored); has_no_duplicates = λ h. h }
 
 -- `HasGrown` is transitive
 pub has_grown_trans : {a b c : RootView} → HasGrown a b → HasGrown b c → HasGrown a c
@@ -27,7 +27,7 @@ has_grown_trans {a = a} x y = record {
   limits = y.limits ∙ x.limits;
   added = x.added ++ y.added;
   stored = y.stored ∙ (ap (λ s. s ++ y.added) x.stored ∙ append_assoc a.stored x.added y.added);
-  once = λ h. y.once (x.once h);
+  has_no_duplicates = λ h. y.has_no_duplicates (x.has_no_duplicates h);
 }
 
 once_more : (stored : List (List ℕ)) (v : List ℕ) → IsDistinct bytes_eq stored
@@ -43,7 +43,7 @@ pub has_grown_by_stored_module : (root : RootView) (needed : Option (List ℕ)) 
 has_grown_by_stored_module root None = has_grown_refl root
 has_grown_by_stored_module root (Some v) =
     let added = by (contains_specifier root.stored v) in
-    record { graph = refl; rules = refl; limits = refl; added = added.0; stored = added.1; once = λ h. once_more root.stored v h }
+    record { graph = refl; rules = refl; limits = refl; added = added.0; stored = added.1; has_no_duplicates = λ h. once_more root.stored v h }
   where
     by : (b : Bool) → (more : List (List ℕ)) × ((if b then root.stored else root.stored ++ v ∷ []) ≡ root.stored ++ more)
     by true = ([], sym (append-nil root.stored))
@@ -61,8 +61,9 @@ longer : (xs ys : List (List ℕ)) (n : ℕ) → n < length xs → n < length (x
 longer xs ys n within = subst (λ (k : ℕ). n < k) (sym (length-append xs ys)) (lt_of_lt_of_le within (le-add_right (length xs) (length ys)))
 
 -- a number of a stored module stays one
-pub still_stored : {root more : RootView} → HasGrown root more → (n : ℕ) → n < length root.stored → n < length more.stored
-still_stored {root = root} grown n within = subst (λ (stored : List (List ℕ)). n < length stored) (sym grown.stored) (longer root.stored grown.added n within)
+pub stored_id_remains_stored : {root more : RootView} → HasGrown root more → (n : ℕ) → n < length root.stored → n < length more.stored
+stored_id_remains_stored {root = root} grown n within = subst (λ (stored : List (List ℕ)). n < length stored) (sym grown.stored)
+    (longer root.stored grown.added n within)
 
 -- a number of a stored module stays that of the same module
 pub specifier_unchanged_by_growth : {root more : RootView} → HasGrown root more → (id : ModuleId) → id.0 < length root.stored

@@ -10,42 +10,48 @@ use Rattle.std.proofs.lemmas.Option.{same_Some}
 use Rattle.symbols_ast.specs.Graph.{GraphView, ModuleView, module_after_redirect, content_types_dependency}
 use Rattle.symbols_graph.specs.GraphFaults.{module_specifiers}
 use Rattle.symbols_root.specs.Specifiers.{module_with_specifier, contains_specifier}
-use Rattle.symbols_root.specs.TypesChains.{types_module, types_chain_from, types_chain, AreTypesModulesFrom, IsTypesChain, IsOnlyTypesChain}
-use Rattle.symbols_root.specs.laws.Specifiers.{laws, nothing_once, AreIn, none_in, one_more_in, no_more, not_before, looked_up_under, types_under}
+use Rattle.symbols_root.specs.TypesChains.{types_module, types_chain_from, types_chain, AreTypesModulesFrom, IsTypesChain, IsUniqueTypesChain}
+use Rattle.symbols_root.specs.laws.Specifiers.{laws, empty_list_is_distinct, AreSpecifiersOfModulesIn, none_in, pushed_specifiers_are_in_graph, no_more}
+use Rattle.symbols_root.specs.laws.Specifiers.{not_before, redirected_module_has_its_specifier, types_module_has_its_specifier}
 
 module _ (graph : GraphView) where
   -- ---- one step of the chain
 
-  pub from_none : (n : ℕ) (before : List (List ℕ)) → types_chain_from graph n before None ≡ []
+  pub types_chain_from_no_module : (n : ℕ) (before : List (List ℕ)) → types_chain_from graph n before None ≡ []
   unfolding types_chain_from
-  from_none zero before = refl
-  from_none (suc n) before = refl
+  types_chain_from_no_module zero before = refl
+  types_chain_from_no_module (suc n) before = refl
 
-  pub from_old : (n : ℕ) (before : List (List ℕ)) (m : ModuleView) → contains_specifier before m.specifier ≡ true
+  pub types_chain_from_visited_module : (n : ℕ) (before : List (List ℕ)) (m : ModuleView) → contains_specifier before m.specifier ≡ true
       → types_chain_from graph n before (Some m) ≡ []
   unfolding types_chain_from
-  from_old zero before m is = refl
-  from_old (suc n) before m is = ap (λ b. if b then [] else m ∷ types_chain_from graph n (before ++ m.specifier ∷ []) (types_module graph m)) is
+  types_chain_from_visited_module zero before m is = refl
+  types_chain_from_visited_module (suc n) before m is = ap (λ b. if b then [] else m ∷ types_chain_from graph n (before ++ m.specifier ∷ [])
+      (types_module graph m)) is
 
-  pub from_new : (n : ℕ) (before : List (List ℕ)) (m : ModuleView) → contains_specifier before m.specifier ≡ false
+  pub types_chain_from_new_module : (n : ℕ) (before : List (List ℕ)) (m : ModuleView) → contains_specifier before m.specifier ≡ false
       → types_chain_from graph (suc n) before (Some m) ≡ m ∷ types_chain_from graph n (before ++ m.specifier ∷ []) (types_module graph m)
   unfolding types_chain_from
-  from_new n before m is = ap (λ b. if b then [] else m ∷ types_chain_from graph n (before ++ m.specifier ∷ []) (types_module graph m)) is
+  types_chain_from_new_module n before m is = ap (λ b. if b then [] else m ∷ types_chain_from graph n (before ++ m.specifier ∷ []) (types_module graph m)) is
 
   -- a new module of the graph is one of the modules not counted before
-  pub room : (before : List (List ℕ)) (m : ModuleView) → IsDistinct bytes_eq before → AreIn graph before → module_with_specifier graph m.specifier ≡ Some m
+  pub room : (before : List (List ℕ)) (m : ModuleView) → IsDistinct bytes_eq before → AreSpecifiersOfModulesIn graph before
+      → module_with_specifier graph m.specifier ≡ Some m
       → contains_specifier before m.specifier ≡ false → length before + 1 ≤ length graph.modules
   room before m once inside under new =
-      let more = no_more graph (before ++ m.specifier ∷ []) (IsDistinct-push laws before m.specifier once new) (one_more_in graph before m inside under) in
+      let more = no_more graph (before ++ m.specifier ∷ []) (IsDistinct-push laws before m.specifier once new)
+      (pushed_specifiers_are_in_graph graph before m inside under) in
       omega (arith, more, length_push before m.specifier)
 
   -- ---- each is the types module of the one before, and they are different
 
-  pub linked : (n : ℕ) (before : List (List ℕ)) (found : Option ModuleView) → AreTypesModulesFrom graph found (types_chain_from graph n before found)
+  pub follows_types_dependencies : (n : ℕ) (before : List (List ℕ)) (found : Option ModuleView) → AreTypesModulesFrom graph found
+      (types_chain_from graph n before found)
   unfolding types_chain_from
-  linked zero before found = tt
-  linked (suc n) before None = tt
-  linked (suc n) before (Some m) = by (contains_specifier before m.specifier) (linked n (before ++ m.specifier ∷ []) (types_module graph m))
+  follows_types_dependencies zero before found = tt
+  follows_types_dependencies (suc n) before None = tt
+  follows_types_dependencies (suc n) before (Some m) = by (contains_specifier before m.specifier) (follows_types_dependencies n (before ++ m.specifier ∷ [])
+      (types_module graph m))
     where
       by : (b : Bool) → AreTypesModulesFrom graph (types_module graph m) (types_chain_from graph n (before ++ m.specifier ∷ []) (types_module graph m))
           → AreTypesModulesFrom graph (Some m) (if b then [] else m ∷ types_chain_from graph n (before ++ m.specifier ∷ []) (types_module graph m))
@@ -69,33 +75,35 @@ module _ (graph : GraphView) where
 
   -- ---- no such list is longer
 
-  pub longest_from : (n : ℕ) (before : List (List ℕ)) (found : Option ModuleView) (other : List ModuleView) → length graph.modules ≤ n + length before
-      → IsDistinct bytes_eq before → AreIn graph before
+  pub no_types_path_is_longer : (n : ℕ) (before : List (List ℕ)) (found : Option ModuleView) (other : List ModuleView) → length graph.modules
+      ≤ n + length before
+      → IsDistinct bytes_eq before → AreSpecifiersOfModulesIn graph before
       → ((m : ModuleView) → found ≡ Some m → module_with_specifier graph m.specifier ≡ Some m) → AreTypesModulesFrom graph found other
       → IsDistinct bytes_eq (before ++ module_specifiers other) → length other ≤ length (types_chain_from graph n before found)
-  longest_from n before found [] enough once inside there are distinct = omega arith
-  longest_from zero before found (m ∷ rest) enough once inside there are distinct =
+  no_types_path_is_longer n before found [] enough once inside there are distinct = omega arith
+  no_types_path_is_longer zero before found (m ∷ rest) enough once inside there are distinct =
       let r = room before m once inside (there m are.0) (not_before before (module_specifiers rest) m.specifier distinct) in
       absurd (omega (arith, r, enough))
-  longest_from (suc n) before found (m ∷ rest) enough once inside there are distinct =
+  no_types_path_is_longer (suc n) before found (m ∷ rest) enough once inside there are distinct =
       let new = not_before before (module_specifiers rest) m.specifier distinct in
       let push = IsDistinct-push laws before m.specifier once new in
-      let more = longest_from n (before ++ m.specifier ∷ []) (types_module graph m) rest (omega (arith, enough, length_push before m.specifier)) push
-      (one_more_in graph before m inside (there m are.0))
-      (types_under graph (content_types_dependency m.content)) are.1
+      let more = no_types_path_is_longer n (before ++ m.specifier ∷ []) (types_module graph m) rest (omega (arith, enough, length_push before m.specifier)) push
+      (pushed_specifiers_are_in_graph graph before m inside (there m are.0))
+      (types_module_has_its_specifier graph (content_types_dependency m.content)) are.1
       (subst (IsDistinct bytes_eq) (sym (append_assoc before (m.specifier ∷ []) (module_specifiers rest))) distinct) in
-      rw (are.0, from_new n before m new) (omega (arith, more))
+      rw (are.0, types_chain_from_new_module n before m new) (omega (arith, more))
 
   -- ---- the types chain
 
   pub is_chain : (specifier : List ℕ) → IsTypesChain graph specifier (types_chain graph specifier)
   is_chain specifier = record {
-    follows = record {
-      in_order = linked (length graph.modules) [] (module_after_redirect graph specifier);
-      once = once_each (length graph.modules) [] (module_after_redirect graph specifier) nothing_once;
+    is_types_dependency_path = record {
+      in_order = follows_types_dependencies (length graph.modules) [] (module_after_redirect graph specifier);
+      has_no_duplicates = once_each (length graph.modules) [] (module_after_redirect graph specifier) empty_list_is_distinct;
     };
-    longest = λ other follows. longest_from (length graph.modules) [] (module_after_redirect graph specifier) other (omega arith) nothing_once (none_in graph)
-        (looked_up_under graph specifier) follows.in_order follows.once;
+    is_longest = λ other follows. no_types_path_is_longer (length graph.modules) [] (module_after_redirect graph specifier) other
+        (omega arith) empty_list_is_distinct (none_in graph)
+        (redirected_module_has_its_specifier graph specifier) follows.in_order follows.has_no_duplicates;
   }
 
   same_linked : (found : Option ModuleView) (a b : List ModuleView) → AreTypesModulesFrom graph found a → AreTypesModulesFrom graph found b
@@ -109,14 +117,15 @@ module _ (graph : GraphView) where
       other.1) (omega (arith, long)) in
       cc
 
-  pub only_chain : (specifier : List ℕ) → IsOnlyTypesChain graph specifier (types_chain graph specifier)
-  only_chain specifier =
+  pub types_chain_is_unique : (specifier : List ℕ) → IsUniqueTypesChain graph specifier (types_chain graph specifier)
+  types_chain_is_unique specifier =
       let stored_specifier = is_chain specifier in
       record {
         is_chain = stored_specifier;
         only = λ other is.
-            let up = stored_specifier.longest other is.follows in
-            let down = is.longest (types_chain graph specifier) stored_specifier.follows in
-            same_linked (module_after_redirect graph specifier) other (types_chain graph specifier) is.follows.in_order stored_specifier.follows.in_order
+            let up = stored_specifier.is_longest other is.is_types_dependency_path in
+            let down = is.is_longest (types_chain graph specifier) stored_specifier.is_types_dependency_path in
+            same_linked (module_after_redirect graph specifier) other
+            (types_chain graph specifier) is.is_types_dependency_path.in_order stored_specifier.is_types_dependency_path.in_order
             (omega (arith, up, down));
       }

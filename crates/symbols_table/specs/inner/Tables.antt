@@ -16,12 +16,13 @@ use Rattle.symbols_table.specs.Symbols.{symbol_decls}
 use Rattle.symbols_table.specs.inner.Symbols.{IsSymbolOfChanges}
 use Rattle.symbols_table.specs.Laws.{IsLawfulParent}
 use Rattle.symbols_table.specs.ModuleViews.{identifier_bindings_view, export_star_view}
-use Rattle.symbols_table.specs.Changes.{Change, makes_symbol, adds_decl, exports, adds_child, adds_member, maps, re_exports_all, is_same_symbol_id}
+use Rattle.symbols_table.specs.Changes.{Change, adds_symbol, adds_decl, exports, adds_child, adds_member, maps, re_exports_all, is_same_symbol_id}
 use Rattle.symbols_table.specs.Changes.{parents_after}
-use Rattle.symbols_table.specs.Changes.{decls_after, exports_after, children_after, members_after, export_stars_after, mapped_symbol_after, child_named}
-use Rattle.symbols_table.specs.Changes.{member_named}
+use Rattle.symbols_table.specs.Changes.{decls_after, exports_after, children_after, members_after, export_stars_after, symbol_of_ident_after_changes}
+use Rattle.symbols_table.specs.Changes.{first_child_named}
+use Rattle.symbols_table.specs.Changes.{first_member_named}
 use Rattle.symbols_table.specs.Events.{EventEffect, changes_of_effects, symbol_of_event_at, effects_after_events}
-use Rattle.symbols_table.specs.EventsByPosition.{EventsByPosition}
+use Rattle.symbols_table.specs.EventsByHolderAndStart.{EventsByHolderAndStart}
 use Rattle.symbols_table.specs.DeclViews.{decl_name}
 
 -- The changes concern no symbol of number s.
@@ -33,7 +34,7 @@ pub record HasNoChanges (changes : List Change) (s : SymbolId) : Type 0 where
 
 -- The change names only symbols below the count.
 abbrev pub NamesSymbolsBelow : ℕ → Change → Type 0
-NamesSymbolsBelow count (makes_symbol _) = Unit {0}
+NamesSymbolsBelow count (adds_symbol _) = Unit {0}
 NamesSymbolsBelow count (adds_decl s _) = s.0 < count
 NamesSymbolsBelow count (exports s _ x) = (s.0 < count) × (x.0 < count)
 NamesSymbolsBelow count (adds_child s x) = (s.0 < count) × (x.0 < count)
@@ -43,7 +44,7 @@ NamesSymbolsBelow count (re_exports_all _) = Unit {0}
 
 -- The change neither binds an identifier to the module's own symbol nor exports that symbol.
 abbrev pub DoesNotBindOrExportModuleSymbol : Change → Type 0
-DoesNotBindOrExportModuleSymbol (makes_symbol _) = Unit {0}
+DoesNotBindOrExportModuleSymbol (adds_symbol _) = Unit {0}
 DoesNotBindOrExportModuleSymbol (adds_decl _ _) = Unit {0}
 DoesNotBindOrExportModuleSymbol (exports _ _ x) = 0 < x.0
 DoesNotBindOrExportModuleSymbol (adds_child _ _) = Unit {0}
@@ -68,10 +69,10 @@ pub record HasAppliedChanges (b : ModuleBuilder) (changes : List Change) : Type 
   pub symbols : (s : SymbolId) (d : Symbol) → s.0 < length b.symbols.items
       → IsSymbolOfChanges b.setting.module_id changes s (slice_index_or b.symbols.items s.0 d)
   pub has_no_changes_beyond_count : (s : SymbolId) → length b.symbols.items ≤ s.0 → HasNoChanges changes s
-  pub ids : (id : IdView) → lookup (is_same_id id) (identifier_bindings_view b.ids.entries) ≡ mapped_symbol_after changes id
+  pub ids : (id : IdView) → lookup (is_same_id id) (identifier_bindings_view b.ids.entries) ≡ symbol_of_ident_after_changes changes id
   -- The children of the module's own symbol are not looked up by name.
-  pub child_names : (q : LocalName) → 0 < q.holder.0 → symbol_by_local_name b.child_names q ≡ child_named changes q.holder (cow_str_bytes q.name)
-  pub member_names : (q : LocalName) → symbol_by_local_name b.member_names q ≡ member_named changes q.holder (cow_str_bytes q.name)
+  pub child_names : (q : LocalName) → 0 < q.holder.0 → symbol_by_local_name b.child_names q ≡ first_child_named changes q.holder (cow_str_bytes q.name)
+  pub member_names : (q : LocalName) → symbol_by_local_name b.member_names q ≡ first_member_named changes q.holder (cow_str_bytes q.name)
   pub stars : map export_star_view b.stars.items ≡ export_stars_after changes
   pub few : length b.symbols.items ≤ b.setting.limit
   pub sound : All (NamesSymbolsBelow (length b.symbols.items)) changes
@@ -104,7 +105,7 @@ AppliesEffectChanges result limit new before row =
     (λ fault. fault ≡ TooManySymbols → limit < length (parents_after (before ++ row.changes)))
 
 -- A call that applies the events of a part of a tree under a holder, whatever events came before.
-abbrev pub AppliesEventsUnderHolder : {A : Type 0} → Result A BuildFault → ModuleBuilder → ModuleBuilder → EventsByPosition → SymbolId → Type 0
+abbrev pub AppliesEventsUnderHolder : {A : Type 0} → Result A BuildFault → ModuleBuilder → ModuleBuilder → EventsByHolderAndStart → SymbolId → Type 0
 AppliesEventsUnderHolder result old new walk holder =
     (rows : List EventEffect) (h : ℕ) → HasAppliedChanges old (changes_of_effects rows) → symbol_of_event_at rows h ≡ Some holder
     → AppliesEffects result old.setting.limit new (effects_after_events rows (walk h (length rows)))

@@ -5,7 +5,7 @@ ghost use Rattle.symbols_ast.specs.TreeFaults.{IsFaultlessTree};
 ghost use Rattle.symbols_ast.specs.WellFormed.{IsWellFormedTree};
 ghost use Rattle.symbols_table.specs.DeclViews.{decl_view};
 ghost use Rattle.symbols_table.specs.Events.{begins, changes_of_events};
-ghost use Rattle.symbols_table.specs.JsonEvents.{json_range, json_decl};
+ghost use Rattle.symbols_table.specs.JsonEvents.{trimmed_json_range, json_decl};
 ghost use Rattle.symbols_table.specs.inner.Tables.{HasAppliedChanges};
 ghost use Rattle.symbols_table.specs.Modules.{parsed, json_text, esm_symbol_table};
 ghost use Rattle.symbols_table.specs.Modules.{json_symbol_table};
@@ -102,8 +102,8 @@ fn build<'a>(
 }
 
 /// Returns the range of a JSON text without the white space at its ends.
-fn json_range(text: &str) -> SourceRange
-    ensures { result ≡ json_range text.now }
+fn trimmed_json_range(text: &str) -> SourceRange
+    ensures { result ≡ trimmed_json_range text.now }
 {
     let start = text.len() - text.trim_start().len();
     SourceRange {
@@ -123,7 +123,7 @@ fn build_json<'a>(
     ensures too_many { IfErr result (λ fault. fault ≡ TooManySymbols
         → setting.limit < symbol_count (table_changes_from_json text.now)) }
 {
-    let range = json_range(text);
+    let range = trimmed_json_range(text);
     let mut builder = begin(setting, SymbolDecl::without_node(range))?;
     builder.declare_default(SymbolId(0), SymbolDecl::without_node(range))?;
     let ModuleBuilder {

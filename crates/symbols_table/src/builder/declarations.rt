@@ -9,12 +9,12 @@ ghost use Rattle.symbols_nodes.specs.NodeViews.{export_decl_view, symbol_node_vi
 ghost use Rattle.symbols_table.specs.DeclViews.{decl_view};
 ghost use Rattle.symbols_table.specs.Events.{EventEffect, effects_after_events, symbol_of_event_at};
 ghost use Rattle.symbols_table.specs.Events.{changes_of_effects};
-ghost use Rattle.symbols_table.specs.EventsByPosition.{no_events_by_position, events_if_some};
-ghost use Rattle.symbols_table.specs.EventsByPosition.{events_of_each};
+ghost use Rattle.symbols_table.specs.EventsByHolderAndStart.{no_events_by_holder_and_start, events_if_some};
+ghost use Rattle.symbols_table.specs.EventsByHolderAndStart.{events_of_each};
 ghost use Rattle.symbols_table.specs.MemberEvents.{member_events_at, member_nodes};
 ghost use Rattle.symbols_table.specs.DeclarationEvents.{unexported_node_view, maybe_exported_node};
-ghost use Rattle.symbols_table.specs.DeclarationEvents.{statement_range, is_exported};
-ghost use Rattle.symbols_table.specs.DeclarationEvents.{export_if, child_and_export_events};
+ghost use Rattle.symbols_table.specs.DeclarationEvents.{export_or_decl_range, is_exported};
+ghost use Rattle.symbols_table.specs.DeclarationEvents.{export_event_if, child_and_export_events};
 ghost use Rattle.symbols_table.specs.DeclarationEvents.{declare_and_add_events, variable_node};
 ghost use Rattle.symbols_table.specs.DeclarationEvents.{binding_events_at, declarator_events_at};
 ghost use Rattle.symbols_table.specs.DeclarationEvents.{variable_statement_events};
@@ -63,8 +63,8 @@ pub(crate) fn declared_as<'a>(
 }
 
 /// Returns the range of the `export`, or of the declaration if it has no `export`.
-pub(crate) fn statement_range(exported: Option<NodeRef<'_>>, node: NodeRef<'_>) -> SourceRange
-    ensures { result ≡ statement_range (option_map node_view exported.entry) (node_view node.entry) }
+pub(crate) fn export_or_decl_range(exported: Option<NodeRef<'_>>, node: NodeRef<'_>) -> SourceRange
+    ensures { result ≡ export_or_decl_range (option_map node_view exported.entry) (node_view node.entry) }
 {
     match exported {
         Some(exported) => exported.range(),
@@ -144,7 +144,7 @@ impl<'a> ModuleBuilder<'a> {
     ghost use Rattle.symbols_table.specs.inner.ModuleBuilderSteps.{KeepsTableValid};
 
     /// Exports the symbol under the name, if it is exported.
-    pub(crate) fn export_if(
+    pub(crate) fn export_event_if(
         &mut self,
         holder: SymbolId,
         symbol: SymbolId,
@@ -159,7 +159,7 @@ impl<'a> ModuleBuilder<'a> {
         ensures table { (rows : List EventEffect) (h s : ℕ) → HasAppliedChanges self.old (changes_of_effects rows)
             → symbol_of_event_at rows h ≡ Some holder → symbol_of_event_at rows s ≡ Some symbol
             → AppliesEffects result self.old.setting.limit self.new (effects_after_events rows
-            (export_if is_exported h name.now s)) }
+            (export_event_if is_exported h name.now s)) }
     {
         if is_exported {
             self.add_export(holder, name, symbol)?;
@@ -186,7 +186,7 @@ impl<'a> ModuleBuilder<'a> {
             (child_and_export_events is_exported h name.now s)) }
     {
         self.add_child(holder, symbol)?;
-        self.export_if(holder, symbol, name, is_exported)
+        self.export_event_if(holder, symbol, name, is_exported)
     }
 
     /// Declares an identifier and adds its symbol to the holder.
@@ -201,7 +201,7 @@ impl<'a> ModuleBuilder<'a> {
         requires holder { holder.0 < length self.old.symbols.items }
         ensures keeps { KeepsTableValid result self.old self.new }
         ensures table { AppliesEventsUnderHolder result self.old self.new (declare_and_add_events is_exported
-            (id_view id.now) (decl_view decl.entry) no_events_by_position) holder }
+            (id_view id.now) (decl_view decl.entry) no_events_by_holder_and_start) holder }
     {
         let symbol = self.declare(holder, id, decl)?;
         self.add_to_holder(holder, symbol, id.name.as_str(), is_exported)
@@ -347,7 +347,7 @@ impl<'a> ModuleBuilder<'a> {
         };
         let decl = SymbolDecl::definition(
             declared_as(exported, form),
-            statement_range(exported, node),
+            export_or_decl_range(exported, node),
         );
         self.declare_with_members(holder, id, decl, node, is_exported(scope, exported))
     }

@@ -6,7 +6,7 @@ ghost use Rattle.std.specs.Cow.{cow_str_bytes};
 ghost use Rattle.symbols_ast.specs.Ids.{id_view};
 ghost use Rattle.symbols_table.specs.DeclViews.{decl_view, is_definition};
 ghost use Rattle.symbols_table.specs.Changes.{Change, exports, adds_child, maps, exported_symbol};
-ghost use Rattle.symbols_table.specs.Changes.{mapped_symbol_after};
+ghost use Rattle.symbols_table.specs.Changes.{symbol_of_ident_after_changes};
 ghost use Rattle.symbols_table.specs.declared.builder.table.BuildFault.TheVariants.{OutOfMemory};
 ghost use Rattle.symbols_table.specs.Events.{default_export_name, declare_effect};
 ghost use Rattle.symbols_table.specs.Events.{new_symbol_effect, declare_alias_effect};
@@ -316,7 +316,7 @@ impl<'a> ModuleBuilder<'a> {
         ensures keeps { KeepsTableValid result self.old self.new }
         ensures table { (changes : List Change) → HasAppliedChanges self.old changes
             → AppliesEffectChanges result self.old.setting.limit self.new changes (expando_effect changes
-            (mapped_symbol_after changes (id_view id.now)) (decl_view decl.entry)) }
+            (symbol_of_ident_after_changes changes (id_view id.now)) (decl_view decl.entry)) }
     {
         let Some(symbol) = self.mapped_symbol(id) else {
             return Ok(());

@@ -6,18 +6,18 @@ ghost use Rattle.symbols_ast.specs.NodeRefs.{node_view, kind_of, child_in_field}
 ghost use Rattle.symbols_ast.specs.ChildFields.{id_of, body_node_of};
 ghost use Rattle.symbols_ast.specs.WellFormed.{IsWellFormedTree};
 ghost use Rattle.symbols_table.specs.inner.NamespaceViews.{namespace_view};
-ghost use Rattle.symbols_table.specs.EventsByPosition.{events_if_some, child_ident_id};
+ghost use Rattle.symbols_table.specs.EventsByHolderAndStart.{events_if_some, id_of_ident_child};
 ghost use Rattle.symbols_table.specs.inner.Levels.{AreGreaterNodeNumbers};
 ghost use Rattle.symbols_table.specs.inner.Levels.{ReturnsSymbolOfFirstEvent};
 ghost use Rattle.symbols_table.specs.Events.{EventEffect, symbol_of_event_at, changes_of_effects};
 ghost use Rattle.symbols_table.specs.TreeEvents.{as_namespace, namespace_of, is_ambient_namespace};
-ghost use Rattle.symbols_table.specs.TreeEvents.{declare_name_part_events};
+ghost use Rattle.symbols_table.specs.TreeEvents.{namespace_part_decl_events};
 ghost use Rattle.symbols_table.specs.TreeEvents.{namespace_body_events_within};
 ghost use Rattle.symbols_table.specs.TreeEvents.{namespace_body_events, namespace_events};
 ghost use Rattle.symbols_table.specs.TreeEvents.{non_namespace_item_events, item_events_within};
 ghost use Rattle.symbols_table.specs.TreeEvents.{item_list_events_within};
 
-use crate::builder::declarations::{declared_as, is_exported, statement_range};
+use crate::builder::declarations::{declared_as, export_or_decl_range, is_exported};
 use crate::builder::scope::Scope;
 use crate::builder::table::{BuildFault, ModuleBuilder};
 use crate::decl::SymbolDecl;
@@ -78,7 +78,7 @@ fn inner_ambient(scope: Scope, kind: &Kind) -> bool
 /// Returns the identifier of a namespace, or of a later part of a dotted one. It is `None` if the
 /// name is a string, as in `declare module "m"`.
 fn namespace_id<'a>(node: NodeRef<'a>) -> Option<&'a Id>
-    ensures { option_copied result ≡ child_ident_id id_of (node_view node.entry) }
+    ensures { option_copied result ≡ id_of_ident_child id_of (node_view node.entry) }
 {
     node.id()?.sym()
 }
@@ -102,7 +102,7 @@ impl<'a> ModuleBuilder<'a> {
         ensures keeps { KeepsTableValid result self.old self.new }
         ensures table { (rows : List EventEffect) (h : ℕ) → HasAppliedChanges self.old (changes_of_effects rows)
             → symbol_of_event_at rows h ≡ Some holder
-            → ReturnsSymbolOfFirstEvent result self.old.setting.limit self.new rows (declare_name_part_events
+            → ReturnsSymbolOfFirstEvent result self.old.setting.limit self.new rows (namespace_part_decl_events
             (node_view whole.entry) (node_view node.entry) id.now h (length rows)) }
     {
         let decl = SymbolDecl::definition(SymbolNodeRef::TsNamespace(whole), node.range());
@@ -206,7 +206,7 @@ impl<'a> ModuleBuilder<'a> {
             return Ok(());
         };
         let form = declared_as(exported, ExportDeclRef::TsModule(decl));
-        let definition = SymbolDecl::definition(form, statement_range(exported, decl));
+        let definition = SymbolDecl::definition(form, export_or_decl_range(exported, decl));
         let symbol = self.declare(holder, id, definition)?;
         self.walk_inside(symbol, decl, inner_ambient(scope, kind))?;
         self.add_to_holder(

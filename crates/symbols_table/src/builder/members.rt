@@ -5,10 +5,10 @@ ghost use Rattle.std.specs.Option.{option_map, option_and_then};
 ghost use Rattle.symbols_ast.specs.NodeRefs.{node_view, kind_of};
 ghost use Rattle.symbols_nodes.specs.NodeViews.{symbol_node_view};
 ghost use Rattle.symbols_table.specs.inner.MemberViews.{member_view};
-ghost use Rattle.symbols_table.specs.EventsByPosition.{events_of_each};
+ghost use Rattle.symbols_table.specs.EventsByHolderAndStart.{events_of_each};
 ghost use Rattle.symbols_table.specs.MemberEvents.{member_nodes, member_event};
 ghost use Rattle.symbols_table.specs.MemberEvents.{constructor_param_events_at};
-ghost use Rattle.symbols_table.specs.MemberEvents.{constructor_events, non_constructor_member};
+ghost use Rattle.symbols_table.specs.MemberEvents.{constructor_events, node_of_non_constructor_member};
 ghost use Rattle.symbols_table.specs.MemberEvents.{member_events_at};
 
 use crate::builder::table::{BuildFault, ModuleBuilder};
@@ -47,9 +47,9 @@ fn simple<'a>(form: SymbolNodeRef<'a>, is_static: bool) -> Option<SimpleMember<'
 }
 
 /// Returns the node as a member other than a constructor or a parameter property, if it is one.
-fn non_constructor_member<'a>(node: NodeRef<'a>) -> Option<SimpleMember<'a>>
+fn node_of_non_constructor_member<'a>(node: NodeRef<'a>) -> Option<SimpleMember<'a>>
     ensures { option_map member_view result
-        ≡ option_and_then (non_constructor_member (node_view node.entry)) (kind_of (node_view node.entry)) }
+        ≡ option_and_then (node_of_non_constructor_member (node_view node.entry)) (kind_of (node_view node.entry)) }
 {
     let Kind::Member(member) = node.kind() else {
         return None;
@@ -191,7 +191,7 @@ impl<'a> ModuleBuilder<'a> {
         if let Kind::Member(Member::Constructor { params, .. }) = node.kind() {
             return self.walk_constructor(holder, node, params);
         }
-        match non_constructor_member(node) {
+        match node_of_non_constructor_member(node) {
             Some(member) => self.define_member(holder, member.form, node, member.is_static),
             None => Ok(()),
         }

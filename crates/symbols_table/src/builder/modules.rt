@@ -7,14 +7,14 @@ ghost use Rattle.symbols_ast.specs.NodeRefs.{node_view, kind_of};
 ghost use Rattle.symbols_ast.specs.WellFormed.{IsWellFormedTree};
 ghost use Rattle.symbols_table.specs.DeclViews.{decl_view, decl_kind_view, file_dep_name_view};
 ghost use Rattle.symbols_table.specs.DeclViews.{file_ref};
-ghost use Rattle.symbols_table.specs.EventsByPosition.{events_if_some, events_of_each};
+ghost use Rattle.symbols_table.specs.EventsByHolderAndStart.{events_if_some, events_of_each};
 ghost use Rattle.symbols_table.specs.Events.{EventEffect, changes_of_effects, symbol_of_event_at};
 ghost use Rattle.symbols_table.specs.Events.{effects_after_events};
 ghost use Rattle.symbols_table.specs.DeclarationEvents.{declared_name};
 ghost use Rattle.symbols_table.specs.declared.builder.table.BuildFault.TheVariants.{OutOfMemory};
 ghost use Rattle.symbols_table.specs.ModuleEvents.{import_dep_name, import_specifier_events_at};
-ghost use Rattle.symbols_table.specs.ModuleEvents.{new_exported_symbol_events, orig_name};
-ghost use Rattle.symbols_table.specs.ModuleEvents.{orig_decl_kind};
+ghost use Rattle.symbols_table.specs.ModuleEvents.{new_exported_symbol_events, orig_specifier_name};
+ghost use Rattle.symbols_table.specs.ModuleEvents.{orig_specifier_decl_kind};
 ghost use Rattle.symbols_table.specs.ModuleEvents.{export_named_specifier_events_at};
 ghost use Rattle.symbols_table.specs.ModuleEvents.{export_specifier_events_at, bind_events_if};
 ghost use Rattle.symbols_table.specs.ModuleEvents.{default_decl_events};
@@ -52,8 +52,8 @@ fn import_dep_name<'a>(node: NodeRef<'a>, local: &'a Id) -> Option<FileDepName<'
 }
 
 /// Returns the name before `as`, an identifier or a string.
-fn orig_name(kind: &Kind) -> Option<&str>
-    ensures { option_copied result ≡ orig_name kind.now }
+fn orig_specifier_name(kind: &Kind) -> Option<&str>
+    ensures { option_copied result ≡ orig_specifier_name kind.now }
 {
     match kind {
         Kind::Expr(Expr::Ident { sym }) => Some(sym.name.as_str()),
@@ -71,13 +71,13 @@ fn file_ref<'a>(name: FileDepName<'a>, specifier: &'a str) -> SymbolDeclKind<'a>
 
 /// Returns the declaration kind of an export's name before `as`: with a specifier a name of the
 /// other module, else an alias of a name of this one.
-fn orig_decl_kind<'a>(
+fn orig_specifier_decl_kind<'a>(
     src: Option<&'a str>,
     orig: NodeRef<'a>,
     name: &'a str,
 ) -> Option<SymbolDeclKind<'a>>
     ensures { Some (option_map decl_kind_view result)
-        ≡ option_map (λ kind. orig_decl_kind (option_copied src.entry) kind name.now)
+        ≡ option_map (λ kind. orig_specifier_decl_kind (option_copied src.entry) kind name.now)
         (kind_of (node_view orig.entry)) }
 {
     match src {
@@ -222,10 +222,10 @@ impl<'a> ModuleBuilder<'a> {
         let Some(orig) = node.orig() else {
             return Ok(());
         };
-        let Some(name) = orig_name(orig.kind()) else {
+        let Some(name) = orig_specifier_name(orig.kind()) else {
             return Ok(());
         };
-        let Some(kind) = orig_decl_kind(src, orig, name) else {
+        let Some(kind) = orig_specifier_decl_kind(src, orig, name) else {
             return Ok(());
         };
         let exported = match exported {
@@ -388,7 +388,7 @@ impl<'a> ModuleBuilder<'a> {
             return Ok(());
         };
         let symbol = self.declare_alias(holder, id, SymbolDecl::new(kind, node.range()))?;
-        self.export_if(holder, symbol, id.name.as_str(), is_export)
+        self.export_event_if(holder, symbol, id.name.as_str(), is_export)
     }
 
     /// Visits an expression statement. An assignment like `f.p = ..` may add a property to a

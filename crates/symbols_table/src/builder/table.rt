@@ -7,10 +7,10 @@ ghost use Rattle.std.specs.Option.{option_map, option_or};
 ghost use Rattle.std.specs.Cow.{cow_str_bytes};
 ghost use Rattle.symbols_table.specs.DeclViews.{decl_view};
 ghost use Rattle.symbols_table.specs.Laws.{IsLawfulParent};
-ghost use Rattle.symbols_table.specs.Changes.{Change, some_if, makes_symbol, adds_decl, exports};
+ghost use Rattle.symbols_table.specs.Changes.{Change, some_if, adds_symbol, adds_decl, exports};
 ghost use Rattle.symbols_table.specs.Changes.{adds_child};
 ghost use Rattle.symbols_table.specs.Changes.{adds_member, maps, re_exports_all};
-ghost use Rattle.symbols_table.specs.Changes.{mapped_symbol_after};
+ghost use Rattle.symbols_table.specs.Changes.{symbol_of_ident_after_changes};
 ghost use Rattle.symbols_table.specs.inner.Tables.{local_name_in_symbols, symbol_by_local_name};
 ghost use Rattle.symbols_table.specs.inner.LocalNames.{is_local_name_of_symbol};
 ghost use Rattle.symbols_table.specs.declared.builder.names.LocalName.{LocalName};
@@ -116,7 +116,7 @@ impl<'a> ModuleBuilder<'a> {
         ensures longer { OnOk result
             (length self.new.symbols.items ≡ length self.old.symbols.items + 1) }
         ensures table { IfOk result (λ s. (changes : List Change) → HasAppliedChanges self.old changes
-            → HasAppliedChanges self.new ((changes ++ makes_symbol parent ∷ [])
+            → HasAppliedChanges self.new ((changes ++ adds_symbol parent ∷ [])
             ++ adds_decl s (decl_view decl.entry) ∷ [])) }
         ensures full { IfErr result (λ fault. fault ≡ TooManySymbols
             → self.old.setting.limit ≤ length self.old.symbols.items) }
@@ -176,7 +176,7 @@ impl<'a> ModuleBuilder<'a> {
         ensures full { IfErr result (λ fault. fault ≡ OutOfMemory) }
     {
         let borrowed_symbol = &mut self.symbols[symbol.0 as usize];
-        let has_overloads = decl.is_overload_after(borrowed_symbol.decls.as_slice());
+        let has_overloads = decl.is_overload_after_decl(borrowed_symbol.decls.as_slice());
         let is_function = decl.is_function();
         borrowed_symbol
             .decls
@@ -287,7 +287,7 @@ impl<'a> ModuleBuilder<'a> {
     pub(crate) fn mapped_symbol(&self, id: &Id) -> Option<SymbolId>
         requires { HasValidTable self.now }
         ensures table { (changes : List Change) → HasAppliedChanges self.now changes
-            → result ≡ mapped_symbol_after changes (id_view id.now) }
+            → result ≡ symbol_of_ident_after_changes changes (id_view id.now) }
         ensures inside { IfSome result (λ s. s.0 < length self.now.symbols.items) }
         ensures inner { IfSome result (λ s. 0 < s.0) }
     {

@@ -11,7 +11,7 @@ ghost use Rattle.symbols_table.specs.DeclViews.{declaration_of_kind, definition_
 ghost use Rattle.symbols_table.specs.DeclViews.{definition, value_type_namespaces_of_decl};
 ghost use Rattle.symbols_table.specs.DeclViews.{file_dep_view, is_definition, decl_kind_node};
 ghost use Rattle.symbols_table.specs.DeclViews.{decl_kind_tree, decl_kind_dep, decl_node_satisfies};
-ghost use Rattle.symbols_table.specs.DeclViews.{last_decl, is_overload_after};
+ghost use Rattle.symbols_table.specs.DeclViews.{last_decl, is_overload_after_decl};
 
 use crate::decl::dep::FileDep;
 use std::alloc::{AllocError, Global};
@@ -268,9 +268,9 @@ impl<'a> SymbolDecl<'a> {
 
     /// Returns whether the declaration gets the overload flag after these declarations of its
     /// symbol.
-    pub(crate) fn is_overload_after(&self, before: &[SymbolDecl<'a>]) -> bool
+    pub(crate) fn is_overload_after_decl(&self, before: &[SymbolDecl<'a>]) -> bool
         ensures { result
-            ≡ is_overload_after (last_decl (map decl_view before.now)) (decl_view self.now) }
+            ≡ is_overload_after_decl (last_decl (map decl_view before.now)) (decl_view self.now) }
     {
         match before.last() {
             None => false,

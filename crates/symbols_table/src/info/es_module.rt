@@ -8,7 +8,7 @@ ghost use Rattle.symbols_ast.specs.Ids.{id_view};
 ghost use Rattle.symbols_ast.specs.TreeFaults.{IsFaultlessTree};
 ghost use Rattle.symbols_ast.specs.WellFormed.{IsWellFormedTree};
 ghost use Rattle.symbols_table.specs.ModuleViews.{identifier_bindings_view, export_star_view};
-ghost use Rattle.symbols_table.specs.Laws.{AreLawfulSymbols, AreBoundedByNodes, AreMappedToSymbols};
+ghost use Rattle.symbols_table.specs.Laws.{AreLawfulSymbols, AreBoundedByNodes, AreIdentsBoundToSymbols};
 ghost use Rattle.symbols_table.specs.Laws.{AreDeclaredInTree, IsExportStarInTree};
 
 use crate::decl::Symbol;
@@ -36,14 +36,14 @@ pub struct EsModuleInfo<'a> {
     pub ghost has_module: { 0 < length symbols.items },
     pub ghost lawful: { AreLawfulSymbols module_id symbols.items } by { Prim.hlevel props },
     pub ghost few: { AreBoundedByNodes source.now symbols.items },
-    pub ghost named: { AreMappedToSymbols (length symbols.items) (identifier_bindings_view ids.entries) },
+    pub ghost named: { AreIdentsBoundToSymbols (length symbols.items) (identifier_bindings_view ids.entries) },
     pub ghost declared: { AreDeclaredInTree source.now symbols.items },
     pub ghost starred: { All (IsExportStarInTree source.now) (map export_star_view stars.items) },
 }
 
 impl<'a> EsModuleInfo<'a> {
     ghost use Rattle.symbols_table.specs.Modules.{esm_symbol_table, symbol_table_of_ref};
-    ghost use Rattle.symbols_table.specs.Modules.{mapped_symbol_in, source_tree};
+    ghost use Rattle.symbols_table.specs.Modules.{symbol_of_ident_in_table, source_tree};
 
     /// Returns the module's number.
     pub fn module_id(&self) -> ModuleId
@@ -84,7 +84,7 @@ impl<'a> EsModuleInfo<'a> {
     /// Returns the number of the symbol that an identifier resolves to in this module (as
     /// deno_graph). It is `None` if no declaration binds the identifier.
     pub fn symbol_id_from_swc(&self, id: &Id) -> Option<SymbolId>
-        ensures { result ≡ mapped_symbol_in (esm_symbol_table self.now) (id_view id.now) }
+        ensures { result ≡ symbol_of_ident_in_table (esm_symbol_table self.now) (id_view id.now) }
     {
         self.ids.get(&id).copied()
     }
@@ -93,7 +93,8 @@ impl<'a> EsModuleInfo<'a> {
     /// `None` if no declaration binds the identifier.
     pub fn symbol_from_swc(&self, id: &Id) -> Option<&Symbol<'a>>
         ensures { option_copied result ≡ option_and_then (λ s. slice_get
-            (esm_symbol_table self.now).symbols s.0) (mapped_symbol_in (esm_symbol_table self.now) (id_view id.now)) }
+            (esm_symbol_table self.now).symbols s.0) (symbol_of_ident_in_table (esm_symbol_table self.now)
+            (id_view id.now)) }
     {
         let symbol_id = self.symbol_id_from_swc(id)?;
         self.symbol(symbol_id)

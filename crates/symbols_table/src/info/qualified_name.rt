@@ -9,9 +9,9 @@ ghost use Rattle.symbols_nodes.specs.NodeTests.{is_class};
 ghost use Rattle.symbols_table.specs.Laws.{AreLawfulSymbols};
 ghost use Rattle.symbols_table.specs.SymbolViews.{SymbolView, symbol_view, symbol_name};
 ghost use Rattle.symbols_table.specs.SymbolViews.{first_decl_node_satisfies, symbol_view_of_number};
-ghost use Rattle.symbols_table.specs.Modules.{symbol_table_of_ref, symbol_in};
+ghost use Rattle.symbols_table.specs.Modules.{symbol_table_of_ref, symbol_in_table};
 ghost use Rattle.symbols_table.specs.QualifiedNames.{escaped_char, escaped_text};
-ghost use Rattle.symbols_table.specs.QualifiedNames.{nested_symbol_suffix};
+ghost use Rattle.symbols_table.specs.QualifiedNames.{nested_name_suffix};
 ghost use Rattle.symbols_table.specs.QualifiedNames.{text_unless_empty, qualified_name};
 ghost use Rattle.symbols_table.specs.QualifiedNames.{IsQualifiedNameFault};
 ghost use Rattle.symbols_table.specs.inner.NamePaths.{reversed_pieces_text, suffix_text};
@@ -140,7 +140,7 @@ fn suffix_pieces<'a>(
     inner: Vec<CowStr<'a>>,
 ) -> Result<Vec<CowStr<'a>>, AllocError>
     ensures { IfOk result (λ pieces. reversed_pieces_text pieces.items
-        ≡ nested_symbol_suffix (symbol_view symbol.now) number (reversed_pieces_text inner.entry.items)) }
+        ≡ nested_name_suffix (symbol_view symbol.now) number (reversed_pieces_text inner.entry.items)) }
 {
     if !symbol.tables.has_member(number) {
         return with_piece(inner, CowStr::Borrowed("."));
@@ -160,7 +160,7 @@ fn push_suffix(
     inner: &str,
 ) -> Result<(), AllocError>
     ensures { OnOk result (string_bytes text.new
-        ≡ string_bytes text.old ++ nested_symbol_suffix (symbol_view symbol.now) number inner.now) }
+        ≡ string_bytes text.old ++ nested_name_suffix (symbol_view symbol.now) number inner.now) }
 {
     if !symbol.tables.has_member(number) {
         text.push_str(".")?;
@@ -184,7 +184,7 @@ fn with_inner(
     inner: &str,
 ) -> Result<String, AllocError>
     ensures { IfOk result (λ text. string_bytes text
-        ≡ name.now ++ nested_symbol_suffix (symbol_view symbol.now) number inner.now) }
+        ≡ name.now ++ nested_name_suffix (symbol_view symbol.now) number inner.now) }
 {
     let room = name.len().saturating_add(inner.len());
     let mut text = String::with_capacity(alloc, room.saturating_add(LONGEST_SIGN))?;
@@ -204,7 +204,7 @@ fn name_with_outer<'a>(
     ensures number { IfOk result (λ named. named.number ≡ (symbol_view symbol.now).number) }
     ensures text { IfOk result (λ named. suffix_text named
         ≡ cow_str_bytes name.entry
-        ++ nested_symbol_suffix (symbol_view symbol.now) inner.entry.number (suffix_text inner.entry)) }
+        ++ nested_name_suffix (symbol_view symbol.now) inner.entry.number (suffix_text inner.entry)) }
 {
     let number = symbol.symbol_id;
     if inner.later.is_empty() && inner.first.as_str().len() <= COPIED {
@@ -349,11 +349,11 @@ impl<'r, 'a> ModuleInfoRef<'r, 'a> {
         alloc: Global,
         symbol_id: SymbolId,
     ) -> Result<Option<String>, SymbolsFault>
-        ensures name { IfOk result (λ name. IsSome (symbol_in (symbol_table_of_ref self.entry) symbol_id)
+        ensures name { IfOk result (λ name. IsSome (symbol_in_table (symbol_table_of_ref self.entry) symbol_id)
             × (option_map string_bytes name
-            ≡ qualified_name (symbol_in (symbol_table_of_ref self.entry)) symbol_id)) }
+            ≡ qualified_name (symbol_in_table (symbol_table_of_ref self.entry)) symbol_id)) }
         ensures fault { IfErr result
-            (IsQualifiedNameFault (symbol_in (symbol_table_of_ref self.entry) symbol_id)) }
+            (IsQualifiedNameFault (symbol_in_table (symbol_table_of_ref self.entry) symbol_id)) }
     {
         if self.symbol(symbol_id).is_none() {
             return Err(SymbolsFault::UnknownSymbol);

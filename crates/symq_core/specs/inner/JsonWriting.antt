@@ -8,7 +8,8 @@ use Rattle.serde_json.specs.View.{items_of}
 use Rattle.serde_json.specs.Written.{outline, items_outline, members_outline}
 use Rattle.symbols_table.specs.DeclViews.{FileDepView}
 use Rattle.symbols_paths.specs.PathTrees.{DeclBySpecifier}
-use Rattle.symq_core.specs.PathData.{decl_data}
+use Rattle.symbols_answers.specs.Inputs.{FoundView, found_module, found_redirect, found_absent}
+use Rattle.symq_core.specs.PathData.{decl_json}
 
 -- the tokens of a value, in order
 abbrev pub tokens_of : Data → List Token
@@ -44,7 +45,13 @@ abbrev pub star_member_tokens : Option FileDepView → List Token
 star_member_tokens None = []
 star_member_tokens (Some dep) = key (codes "star") ∷ string dep.specifier ∷ []
 
+-- the tokens of the members for what the graph has under a specifier
+abbrev pub found_member_tokens : FoundView → List Token
+found_member_tokens found_module = key (codes "found") ∷ string (codes "module") ∷ []
+found_member_tokens (found_redirect specifier) = key (codes "found") ∷ string (codes "redirect") ∷ key (codes "module") ∷ string specifier ∷ []
+found_member_tokens found_absent = key (codes "found") ∷ string (codes "absent") ∷ []
+
 -- the tokens of a link up to the bracket of `next`
 abbrev pub link_tokens_up_to_next : List ℕ → DeclBySpecifier → List Token
 link_tokens_up_to_next specifier decl = begin_object ∷ key (codes "decl")
-    ∷ (tokens_of (decl_data decl) ++ key (codes "module") ∷ string specifier ∷ key (codes "next") ∷ begin_array ∷ [])
+    ∷ (tokens_of (decl_json decl) ++ key (codes "module") ∷ string specifier ∷ key (codes "next") ∷ begin_array ∷ [])

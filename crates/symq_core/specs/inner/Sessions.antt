@@ -4,7 +4,7 @@ use Rattle.std.specs.Io.KnownBytes.{Appends}
 use Rattle.symbols_root.specs.Roots.{RootView}
 use Rattle.symq_core.specs.AnswerTexts.{answer_text}
 use Rattle.symq_core.specs.Lines.{split_at_newlines, answer_lines}
-use Rattle.symq_core.specs.Serving.{AppendsPrefix}
+use Rattle.symq_core.specs.Serving.{IsPrefixAppendedToOutput}
 use Rattle.symq_core.specs.declared.fault.EngineFault.{EngineFault}
 use Rattle.symq_core.specs.declared.fault.EngineFault.TheVariants.{OutOfMemory, InputFailed, OutputFailed, InputTooLong}
 
@@ -36,7 +36,7 @@ abbrev pub IsLinesFault : (List ℕ → List ℕ) → List (List ℕ) → Option
 IsLinesFault answer lines old new waiting_old waiting_new count_old count_new OutOfMemory =
     SendsFirstAnswers answer lines old new waiting_old waiting_new × (count_new ≡ count_old)
 IsLinesFault answer lines old new waiting_old waiting_new count_old count_new OutputFailed =
-    AppendsPrefix old new (waiting_old ++ answer_lines answer lines) × (count_new ≡ count_old + 1)
+    IsPrefixAppendedToOutput old new (waiting_old ++ answer_lines answer lines) × (count_new ≡ count_old + 1)
 IsLinesFault answer lines old new waiting_old waiting_new count_old count_new InputFailed = ⊥
 IsLinesFault answer lines old new waiting_old waiting_new count_old count_new InputTooLong = ⊥
 
@@ -50,6 +50,6 @@ abbrev pub IsWrittenLinesFault : (List ℕ → List ℕ) → List (List ℕ) →
 IsWrittenLinesFault answer lines old new waiting count_old count_new OutOfMemory =
     WritesPendingAndFirst answer lines old new waiting × (count_new ≡ count_old)
 IsWrittenLinesFault answer lines old new waiting count_old count_new OutputFailed =
-    AppendsPrefix old new (waiting ++ answer_lines answer lines) × (count_new ≡ count_old + 1)
+    IsPrefixAppendedToOutput old new (waiting ++ answer_lines answer lines) × (count_new ≡ count_old + 1)
 IsWrittenLinesFault answer lines old new waiting count_old count_new InputFailed = ⊥
 IsWrittenLinesFault answer lines old new waiting count_old count_new InputTooLong = ⊥

@@ -8,7 +8,7 @@ use Rattle.json.specs.Tree.{json_tokens}
 use Rattle.symbols_ast.specs.declared.graph.raw.RawModule.{RawModule}
 use Rattle.symq_reader.specs.JsonData.{json_items_data}
 use Rattle.symq_reader.specs.inner.JsonData.{items_fit}
-use Rattle.symq_reader.specs.GraphText.{as_module, module_shape}
+use Rattle.symq_reader.specs.GraphText.{as_module, raw_module_view}
 use Rattle.symq_reader.specs.inner.Streams.{ConsumesItems, ReadsValue}
 use Rattle.symq_reader.specs.UnderKeys.{read_each_item}
 
@@ -41,12 +41,12 @@ pub record AreModulesAppended (values : json.Items) (before after : List RawModu
   pub fit : items_fit values ≡ true
   pub modules : List RawModule
   pub pushed : after ≡ before ++ modules
-  pub are : read_each_item as_module (json_items_data values) ≡ Some (map module_shape modules)
+  pub are : read_each_item as_module (json_items_data values) ≡ Some (map raw_module_view modules)
 
 -- one module was read and appended
 pub record ConsumesModule (old new : List Token) (before after : List RawModule) : Type 0 where
   pub one : RawModule
-  pub reads : ReadsValue 125 old new as_module (module_shape one)
+  pub reads : ReadsValue 125 old new as_module (raw_module_view one)
   pub pushed : after ≡ before ++ one ∷ []
 
 -- the piece consists of modules, which were read and appended

@@ -8,8 +8,8 @@ use Rattle.json.specs.Find.{get_member}
 use Rattle.serde_json.specs.Data.{Data}
 use Rattle.symq_reader.specs.JsonData.{json_data, json_items_data}
 use Rattle.symq_reader.specs.inner.JsonData.{fits, items_fit, members_fit}
-use Rattle.symq_reader.specs.GraphText.{TreeShape, ModuleShape, ModuleKindShape, esm, json as json_module, external}
-use Rattle.symq_reader.specs.UnderKeys.{none_if_null, map_if_present, read_each_item, items_or_empty}
+use Rattle.symq_reader.specs.GraphText.{RawTreeView, RawModuleView, RawModuleKindView, esm, json as json_module, external}
+use Rattle.symq_reader.specs.UnderKeys.{none_if_null, read_if_present, read_each_item, array_items_or_empty}
 
 -- ---- the parts of a list and of an object, one after the other
 
@@ -52,10 +52,10 @@ pub record ReadsMemberApart (depth : ℕ) (old new : List Token) (key : List ℕ
 -- ---- what was read of a value
 
 abbrev pub list_in_optional_data : {A : Type 0} → (Data → Option A) → Option Data → Option (List A)
-list_in_optional_data form o = option_and_then (read_each_item form) (items_or_empty (option_and_then none_if_null o))
+list_in_optional_data form o = option_and_then (read_each_item form) (array_items_or_empty (option_and_then none_if_null o))
 
 abbrev pub value_in_optional_data : {A : Type 0} → (Data → Option A) → Option Data → Option (Option A)
-value_in_optional_data form o = map_if_present form (option_and_then none_if_null o)
+value_in_optional_data form o = read_if_present form (option_and_then none_if_null o)
 
 -- the next value was read; its numbers are whole, and the form reads it as x
 pub record ReadsValue {A : Type 0} (depth : ℕ) (old new : List Token) (form : Data → Option A) (x : A) : Type 0 where
@@ -80,10 +80,10 @@ pub record ReadsMembers {A : Type 0} (depth : ℕ) (old new : List Token) (form 
 
 -- ---- a module whose tree was read apart
 
-abbrev pub module_kind_shape_with_tree : Option TreeShape → ModuleKindShape → ModuleKindShape
+abbrev pub module_kind_shape_with_tree : Option RawTreeView → RawModuleKindView → RawModuleKindView
 module_kind_shape_with_tree tree (esm text _ types) = esm text tree types
 module_kind_shape_with_tree tree (json_module text) = json_module text
 module_kind_shape_with_tree tree external = external
 
-abbrev pub module_shape_with_tree : Option TreeShape → ModuleShape → ModuleShape
+abbrev pub module_shape_with_tree : Option RawTreeView → RawModuleView → RawModuleView
 module_shape_with_tree tree m = record { specifier = m.specifier; kind = module_kind_shape_with_tree tree m.kind }

@@ -3,7 +3,7 @@
 ghost use Rattle.std.specs.Prelude.{◌≡◌, [], IfOk, OnOk, Option, codes, map, option_map, Some};
 ghost use Rattle.json.specs.Json as spec;
 ghost use Rattle.json.specs.Value.{members_view};
-ghost use Rattle.symq_reader.specs.GraphText.{as_module, as_tree, module_shape, tree_shape};
+ghost use Rattle.symq_reader.specs.GraphText.{as_module, as_tree, raw_module_view, raw_tree_view};
 ghost use Rattle.symq_reader.specs.inner.Pieces.{ReadsModulesToEnd};
 ghost use Rattle.symq_reader.specs.JsonData.{json_data};
 ghost use Rattle.symq_reader.specs.inner.Streams.{ReadsMemberApart, ReadsValue, ReadsItems};
@@ -27,7 +27,7 @@ fn tree_among<'a>(
     requires { retained.old.items ≡ [] }
     ensures { IfOk result (λ found. (there : Option spec.Json)
         × ReadsMemberApart 124 reader.old reader.new (codes "tree") there (members_view retained.new.items)
-        × (value_in_optional_data as_tree (option_map json_data there) ≡ Some (option_map tree_shape found))) }
+        × (value_in_optional_data as_tree (option_map json_data there) ≡ Some (option_map raw_tree_view found))) }
 {
     if !members::pass_until(alloc, reader, 124, "tree", retained)? {
         return Ok(None);
@@ -41,7 +41,7 @@ fn tree_among<'a>(
 
 /// Returns the module with this tree; a kind without a tree stays as it is.
 fn module_shape_with_tree(read: RawModule, tree: Option<Tree>) -> RawModule
-    ensures { module_shape result ≡ module_shape_with_tree (option_map tree_shape tree) (module_shape read) }
+    ensures { raw_module_view result ≡ module_shape_with_tree (option_map raw_tree_view tree) (raw_module_view read) }
 {
     let RawModule { specifier, kind } = read;
     let kind = match kind {
@@ -57,7 +57,7 @@ pub(crate) fn module_members(
     reader: &mut Reader<'_>,
 ) -> Result<RawModule, FastPathFault>
     ensures { IfOk result (λ found. ReadsMembers 124 reader.old reader.new
-        as_module (module_shape found)) }
+        as_module (raw_module_view found)) }
 {
     let mut retained = Vec::new(alloc);
     let tree = tree_among(alloc, reader, &mut retained)?;
@@ -68,7 +68,7 @@ pub(crate) fn module_members(
 /// Reads a module. Its nodes are read one by one, without a JSON value of the tree.
 fn module(alloc: Global, reader: &mut Reader<'_>) -> Result<RawModule, FastPathFault>
     ensures { IfOk result
-        (λ found. ReadsValue 125 reader.old reader.new as_module (module_shape found)) }
+        (λ found. ReadsValue 125 reader.old reader.new as_module (raw_module_view found)) }
 {
     let Some(Token::BeginObject) = reader.next() else {
         return Err(FastPathFault::Unsupported);
@@ -93,7 +93,7 @@ pub(crate) fn more_modules(
 /// Reads the modules of a list, after its bracket.
 fn module_items(alloc: Global, reader: &mut Reader<'_>) -> Result<Vec<RawModule>, FastPathFault>
     ensures { IfOk result (λ found. ReadsItems 125 reader.old reader.new
-        as_module (map module_shape found.items)) }
+        as_module (map raw_module_view found.items)) }
 {
     let mut found = Vec::new(alloc);
     more_modules(alloc, reader, &mut found)?;
@@ -104,7 +104,7 @@ fn module_items(alloc: Global, reader: &mut Reader<'_>) -> Result<Vec<RawModule>
 /// Reads a list of modules; none if it is null.
 fn module_list(alloc: Global, reader: &mut Reader<'_>) -> Result<Vec<RawModule>, FastPathFault>
     ensures { IfOk result (λ found. ReadsValue 126 reader.old reader.new
-        (λ d. list_in_optional_data as_module (Some d)) (map module_shape found.items)) }
+        (λ d. list_in_optional_data as_module (Some d)) (map raw_module_view found.items)) }
 {
     match reader.next() {
         Some(Token::BeginArray) => module_items(alloc, reader),
@@ -122,7 +122,7 @@ pub(crate) fn modules_among<'a>(
     requires { retained.old.items ≡ [] }
     ensures { IfOk result (λ found. (there : Option spec.Json)
         × ReadsMemberApart 126 reader.old reader.new (codes "modules") there (members_view retained.new.items)
-        × (list_in_optional_data as_module (option_map json_data there) ≡ Some (map module_shape found.items))) }
+        × (list_in_optional_data as_module (option_map json_data there) ≡ Some (map raw_module_view found.items))) }
 {
     if !members::pass_until(alloc, reader, 126, "modules", retained)? {
         return Ok(Vec::new(alloc));

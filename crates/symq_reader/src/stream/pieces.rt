@@ -5,7 +5,7 @@
 //! piece verifies that it is between two modules.
 
 ghost use Rattle.std.specs.Prelude.{◌≡◌, ◌++◌, ◌∷◌, [], MatchBool, IfSome, IfOk, OnOk, Ok};
-ghost use Rattle.symq_reader.specs.GraphText.{graph_shape, read_outcome_of_bytes};
+ghost use Rattle.symq_reader.specs.GraphText.{raw_graph_view, read_outcome_of_bytes};
 ghost use Rattle.symq_reader.specs.inner.Pieces.{graph_text_opening, IsPieceCut, ConsumesModule};
 ghost use Rattle.symq_reader.specs.inner.Pieces.{ReadsPiece, ReadsPieces};
 
@@ -112,7 +112,8 @@ fn pieces<'t>(
 /// Returns the graph of a text that begins with its modules. `list` is the text after their
 /// bracket.
 pub(crate) fn graph(alloc: Global, list: &[u8]) -> Result<RawGraph, FastPathFault>
-    ensures { IfOk result (λ graph. read_outcome_of_bytes (graph_text_opening ++ list.now) ≡ Ok (graph_shape graph)) }
+    ensures { IfOk result (λ graph. read_outcome_of_bytes (graph_text_opening ++ list.now) ≡ Ok
+        (raw_graph_view graph)) }
 {
     let mut scratch = Scratch::new(alloc);
     let mut found = Vec::new(alloc);

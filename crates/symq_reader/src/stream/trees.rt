@@ -3,7 +3,7 @@
 ghost use Rattle.std.specs.Prelude.{◌≡◌, ◌++◌, ◌∷◌, [], IfOk, Option, codes, map, option_map, Some};
 ghost use Rattle.json.specs.Json as spec;
 ghost use Rattle.json.specs.Value.{members_view};
-ghost use Rattle.symq_reader.specs.GraphText.{as_node, as_tree, node_shape, tree_shape};
+ghost use Rattle.symq_reader.specs.GraphText.{as_node, as_tree, raw_node_view, raw_tree_view};
 ghost use Rattle.symq_reader.specs.JsonData.{json_data};
 ghost use Rattle.symq_reader.specs.inner.Streams.{ReadsMemberApart, ReadsValue, ReadsItems};
 ghost use Rattle.symq_reader.specs.inner.Streams.{ReadsMembers, list_in_optional_data};
@@ -41,7 +41,7 @@ fn add_node<'a>(
     found: &mut Vec<Node>,
 ) -> Result<(), FastPathFault>
     ensures { IfOk result (λ _. (node : SpecNode)
-        × ReadsValue 122 reader.old reader.new as_node (node_shape node)
+        × ReadsValue 122 reader.old reader.new as_node (raw_node_view node)
         × (found.new.items ≡ found.old.items ++ node ∷ [])) }
 {
     let Some(Token::BeginObject) = reader.next() else {
@@ -55,7 +55,7 @@ fn add_node<'a>(
 /// Reads the nodes of a list, after its bracket.
 fn node_items<'a>(alloc: Global, reader: &mut Reader<'a>) -> Result<Vec<Node>, FastPathFault>
     ensures { IfOk result (λ found. ReadsItems 122 reader.old reader.new
-        as_node (map node_shape found.items)) }
+        as_node (map raw_node_view found.items)) }
 {
     let mut found = Vec::new(alloc);
     let mut retained = Vec::new(alloc);
@@ -70,7 +70,7 @@ fn node_items<'a>(alloc: Global, reader: &mut Reader<'a>) -> Result<Vec<Node>, F
 /// Reads a list of nodes; none if it is null.
 fn node_list(alloc: Global, reader: &mut Reader<'_>) -> Result<Vec<Node>, FastPathFault>
     ensures { IfOk result (λ found. ReadsValue 123 reader.old reader.new
-        (λ d. list_in_optional_data as_node (Some d)) (map node_shape found.items)) }
+        (λ d. list_in_optional_data as_node (Some d)) (map raw_node_view found.items)) }
 {
     match reader.next() {
         Some(Token::BeginArray) => node_items(alloc, reader),
@@ -88,7 +88,7 @@ fn nodes_among<'a>(
     requires { retained.old.items ≡ [] }
     ensures { IfOk result (λ found. (there : Option spec.Json)
         × ReadsMemberApart 123 reader.old reader.new (codes "nodes") there (members_view retained.new.items)
-        × (list_in_optional_data as_node (option_map json_data there) ≡ Some (map node_shape found.items))) }
+        × (list_in_optional_data as_node (option_map json_data there) ≡ Some (map raw_node_view found.items))) }
 {
     if !members::pass_until(alloc, reader, 123, "nodes", retained)? {
         return Ok(Vec::new(alloc));
@@ -103,7 +103,7 @@ fn nodes_among<'a>(
 /// Reads a tree from the members of an object, after its brace.
 fn tree_members(alloc: Global, reader: &mut Reader<'_>) -> Result<Tree, FastPathFault>
     ensures { IfOk result
-        (λ tree. ReadsMembers 123 reader.old reader.new as_tree (tree_shape tree)) }
+        (λ tree. ReadsMembers 123 reader.old reader.new as_tree (raw_tree_view tree)) }
 {
     let mut retained = Vec::new(alloc);
     let found = nodes_among(alloc, reader, &mut retained)?;
@@ -118,7 +118,7 @@ pub(crate) fn optional_tree(
     reader: &mut Reader<'_>,
 ) -> Result<Option<Tree>, FastPathFault>
     ensures { IfOk result (λ found. ReadsValue 124 reader.old reader.new
-        (λ d. value_in_optional_data as_tree (Some d)) (option_map tree_shape found)) }
+        (λ d. value_in_optional_data as_tree (Some d)) (option_map raw_tree_view found)) }
 {
     match reader.next() {
         Some(Token::BeginObject) => Ok(Some(tree_members(alloc, reader)?)),

@@ -3,7 +3,7 @@ use Rattle.symbols_ast.specs.declared.tree.kinds.Kind.TheVariants as Kind
 use Rattle.symbols_ast.specs.declared.tree.kinds.Expr.TheVariants as Expr
 use Rattle.symbols_ast.specs.NodeRefs.{node_view, kind_of}
 use Rattle.symbols_deps.specs.inner.KnownFacts.{may_be_reference}
-use Rattle.symbols_nodes.specs.References.{dependency_view}
+use Rattle.symbols_nodes.specs.References.{namespaced_reference_view}
 use Rattle.symbols_deps.proofs.KnownLemmas.{refers_to_nothing, refers_by_name}
 use Rattle.symbols_deps.proofs.references.push_reference.Goals as goal
 
@@ -15,7 +15,8 @@ returns-then-not-may_be_reference-clause-refers c =
 pub returns-then-not-may_be_reference-clause-added : goal.returns-then-not-may_be_reference-clause-added
 returns-then-not-may_be_reference-clause-added c =
     let not_so : may_be_reference c.args.kind.now ≡ false = search rules in
-    rw (refers_to_nothing (node_view c.args.node) c.args.kind.now c.requires.kind not_so) (sym (append-nil (map dependency_view c.args.found.now.items)))
+    rw (refers_to_nothing (node_view c.args.node) c.args.kind.now c.requires.kind not_so)
+    (sym (append-nil (map namespaced_reference_view c.args.found.now.items)))
 
 pub returns-in-Expr-Ident-clause-refers : goal.returns-in-Expr-Ident-clause-refers
 returns-in-Expr-Ident-clause-refers c =

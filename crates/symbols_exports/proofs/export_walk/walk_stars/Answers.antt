@@ -7,17 +7,17 @@ use Rattle.symbols_ast.specs.declared.ids.SymbolId.{SymbolId}
 use Rattle.symbols_table.specs.declared.info.fault.SymbolsFault.TheVariants.{OutOfMemory}
 use Rattle.symbols_root.specs.Roots.{RootView, maybe_specifier, specifier_in}
 use Rattle.symbols_exports.specs.inner.OneName.{IsExportWalkAnswer}
-use Rattle.symbols_exports.specs.SharedNameLists.{shared_groups}
-use Rattle.symbols_exports.specs.inner.Sharing.{is_along_stars}
+use Rattle.symbols_exports.specs.SharedNameLists.{groups_with_shared_exporters}
+use Rattle.symbols_exports.specs.inner.Collecting.{is_along_stars}
 use Rattle.symbols_exports.specs.inner.NameFilter.{accepted_exports_of, collects_shared}
 use Rattle.symbols_exports.specs.declared.module_exports.ModuleExports.{ModuleExports}
 use Rattle.symbols_exports.specs.declared.frame.Frame.{Frame}
 use Rattle.symbols_exports.specs.declared.name_filter.NameFilter.{NameFilter}
 use Rattle.symbols_exports.specs.StarStatements.{resolve_specifier}
-use Rattle.symbols_exports.specs.CollectedNames.{unresolved_specifier_view, resolved_export_views, resolved_shared_name_views}
+use Rattle.symbols_exports.specs.CollectedNames.{unresolved_star_view, resolved_export_views, resolved_shared_name_views}
 use Rattle.symbols_exports.specs.inner.Collecting.{CollectedView, ExportWalkView, nothing_collected, with_unresolved, walk_with_exports_of_module}
 use Rattle.symbols_exports.specs.inner.Collecting.{is_same_module, frame_view}
-use Rattle.symbols_exports.proofs.CandidatesOfWalk.{with_module, module_explicit}
+use Rattle.symbols_exports.proofs.CandidatesOfWalk.{graph_with_put_module, module_explicit}
 use Rattle.symbols_exports.proofs.StoringWalk.{IsWalking}
 use Rattle.symbols_exports.proofs.StepsByCalls as walking
 use Rattle.symbols_exports.proofs.StepPopsFrame.{walking_back, frame_fits}
@@ -62,11 +62,11 @@ walk-init c =
     let frames : map frame_view c.deref.result.now ≡ [] = ap (map frame_view) (c.deref.ensures.value ∙ c.new-stack.ensures.items) in
     let keeps : c.new-collected.result.keeps ≡ collects_shared c.args.name_filter c.args.root.now.rules =
     ap (λ (w : ExportWalkView). w.keeps) c.new-collected.ensures ∙ (c.collects_shared.ensures ∙ ap (collects_shared c.args.name_filter) c.rules.ensures) in
-    let collected : c.collect_from_module.new.self.collected ≡ with_module c.args.name_filter c.args.root.now [] c.args.module_id nothing_collected =
+    let collected : c.collect_from_module.new.self.collected ≡ graph_with_put_module c.args.name_filter c.args.root.now [] c.args.module_id nothing_collected =
     ap (λ (w : ExportWalkView). w.collected) c.in_ok-collect_from_module.ensures
     ∙ (module_explicit c.args.name_filter c.args.root.now (map frame_view c.deref.result.now)
     c.args.module_id c.new-collected.result keeps
-    ∙ (λ i. with_module c.args.name_filter c.args.root.now (frames i) c.args.module_id ((c.new-collected.ensures i).collected))) in (
+    ∙ (λ i. graph_with_put_module c.args.name_filter c.args.root.now (frames i) c.args.module_id ((c.new-collected.ensures i).collected))) in (
       0,
       omega arith,
       subst (λ (t : CollectedView). IsWalking c.args.name_filter c.args.root.now c.args.module_id c.args.root.now c.args.module_id 0
@@ -78,7 +78,7 @@ walk-init c =
 
 pub resolve_specifier-requires-clause-room : goal.resolve_specifier-requires-clause-room
 resolve_specifier-requires-clause-room c =
-    let has_room = walking.room c.walk.invariant.2 c.unresolved_star_of_trace.ensures.few c.in-Some.frame.specifier_text c.in-Some.ensures.specifier_text
+    let has_room = walking.room c.walk.invariant.2 c.star_frame_at.ensures.few c.in-Some.frame.specifier_text c.in-Some.ensures.specifier_text
     c.args.counter.now.count c.requires.room c.walk.invariant.3 in
     let fits : c.walk.counter.count + 1 < 2 ^ 128 = omega (arith, has_room, c.walk.invariant.1) in
     fits
@@ -89,7 +89,7 @@ returns-in-Err-clause-faults c =
     broken_off c.args.name_filter c.args.root.now c.args.module_id c.resolve_specifier.new.root c.args.counter.now.count c.resolve_specifier.new.counter.count
     (c.walk.invariant.0 + 1) c.in-Err.fault (one_more c.args.counter.now.count c.walk.counter.count c.resolve_specifier.new.counter.count c.walk.invariant.0
     c.resolve_specifier.ensures.counted c.walk.invariant.1)
-    (walking.looked_up_refused walk c.unresolved_star_of_trace.ensures.few c.in-Some.frame.specifier_text c.in-Some.ensures.specifier_text
+    (walking.looked_up_refused walk c.star_frame_at.ensures.few c.in-Some.frame.specifier_text c.in-Some.ensures.specifier_text
     (sym c.is_name_search_done.ensures
     ∙ c.walk-test.true) c.resolve_specifier.new.root c.in-Err.fault c.in-Err.ensures.unchanged c.in-Err.ensures.keeps.refused)
 
@@ -101,19 +101,19 @@ returns-in_err-collect_unresolved-in-Ok-None-clause-faults c =
     (broken_off c.args.name_filter c.args.root.now c.args.module_id c.resolve_specifier.new.root c.args.counter.now.count c.resolve_specifier.new.counter.count
     (c.walk.invariant.0 + 1) OutOfMemory (one_more c.args.counter.now.count c.walk.counter.count c.resolve_specifier.new.counter.count c.walk.invariant.0
     c.resolve_specifier.ensures.counted c.walk.invariant.1)
-    (walking.unresolved_cut c.walk.invariant.2 c.unresolved_star_of_trace.ensures.few c.in-Some.frame.specifier_text c.in-Some.ensures.specifier_text
+    (walking.unresolved_cut c.walk.invariant.2 c.star_frame_at.ensures.few c.in-Some.frame.specifier_text c.in-Some.ensures.specifier_text
     c.resolve_specifier.new.root c.in-Ok-None.ensures.stored (subst (gives c.resolve_specifier.new.root c.walk.root c.walk.here
     c.in-Some.frame.specifier_text.now) c.in-Ok-None.field-0-is c.in-Ok-None.ensures.gives) (sym c.is_name_search_done.ensures ∙ c.walk-test.true)))
 
 pub overflow_add-next : goal.overflow_add-next
 overflow_add-next c = record {
-  fits = walking.fits c.walk.invariant.2 c.unresolved_star_of_trace.ensures.few c.in-Some.frame.specifier_text
+  fits = walking.fits c.walk.invariant.2 c.star_frame_at.ensures.few c.in-Some.frame.specifier_text
       c.in-Some.ensures.specifier_text;
 }
 
 pub walk-smaller-in-Ok-None : goal.walk-smaller-in-Ok-None
 walk-smaller-in-Ok-None c =
-    walking.unresolved_less c.walk.invariant.2 c.unresolved_star_of_trace.ensures.few c.in-Some.frame.specifier_text c.in-Some.ensures.specifier_text
+    walking.unresolved_less c.walk.invariant.2 c.star_frame_at.ensures.few c.in-Some.frame.specifier_text c.in-Some.ensures.specifier_text
     c.resolve_specifier.new.root c.in-Ok-None.ensures.stored (subst
     (gives c.resolve_specifier.new.root c.walk.root c.walk.here c.in-Some.frame.specifier_text.now) c.in-Ok-None.field-0-is c.in-Ok-None.ensures.gives)
 
@@ -129,7 +129,7 @@ walk-preserved-in-Ok-None c =
           c.resolve_specifier.ensures.counted c.walk.invariant.1),
       subst (λ (t : CollectedView). IsWalking c.args.name_filter c.args.root.now c.args.module_id
           c.resolve_specifier.new.root c.walk.here (c.walk.next + 1) c.walk.stack.items c.walk.visited.keys t (c.walk.invariant.0 + 1)) (sym collected)
-          (walking.looked_up_unresolved c.walk.invariant.2 c.unresolved_star_of_trace.ensures.few c.in-Some.frame.specifier_text
+          (walking.looked_up_unresolved c.walk.invariant.2 c.star_frame_at.ensures.few c.in-Some.frame.specifier_text
           c.in-Some.ensures.specifier_text
           c.resolve_specifier.new.root c.in-Ok-None.ensures.stored (subst (gives c.resolve_specifier.new.root c.walk.root c.walk.here
           c.in-Some.frame.specifier_text.now) c.in-Ok-None.field-0-is c.in-Ok-None.ensures.gives) (sym c.is_name_search_done.ensures ∙ c.walk-test.true)),
@@ -140,7 +140,7 @@ walk-preserved-in-Ok-None c =
 
 pub visit_module-requires : goal.visit_module-requires
 visit_module-requires c =
-    walking.number_in c.walk.invariant.2 c.unresolved_star_of_trace.ensures.few c.in-Some.frame.specifier_text c.in-Some.ensures.specifier_text
+    walking.number_in c.walk.invariant.2 c.star_frame_at.ensures.few c.in-Some.frame.specifier_text c.in-Some.ensures.specifier_text
     c.resolve_specifier.new.root
     c.in-Ok-Some.ensures.stored c.in-Ok-Some.target (subst (gives c.resolve_specifier.new.root c.walk.root c.walk.here c.in-Some.frame.specifier_text.now)
     c.in-Ok-Some.field-0-is c.in-Ok-Some.ensures.gives)
@@ -152,7 +152,7 @@ returns-in_err-visit_module-in-Ok-Some-clause-faults c =
     (broken_off c.args.name_filter c.args.root.now c.args.module_id c.resolve_specifier.new.root c.args.counter.now.count c.resolve_specifier.new.counter.count
     (c.walk.invariant.0 + 1) OutOfMemory (one_more c.args.counter.now.count c.walk.counter.count c.resolve_specifier.new.counter.count c.walk.invariant.0
     c.resolve_specifier.ensures.counted c.walk.invariant.1)
-    (walking.somewhere_cut c.walk.invariant.2 c.unresolved_star_of_trace.ensures.few c.in-Some.frame.specifier_text c.in-Some.ensures.specifier_text
+    (walking.somewhere_cut c.walk.invariant.2 c.star_frame_at.ensures.few c.in-Some.frame.specifier_text c.in-Some.ensures.specifier_text
     c.resolve_specifier.new.root c.in-Ok-Some.ensures.stored c.in-Ok-Some.target (subst (gives c.resolve_specifier.new.root c.walk.root c.walk.here
     c.in-Some.frame.specifier_text.now) c.in-Ok-Some.field-0-is c.in-Ok-Some.ensures.gives) (sym c.is_name_search_done.ensures ∙ c.walk-test.true)))
 
@@ -166,7 +166,7 @@ walk-smaller-then-branch c =
     walking.if_new c.in_ok-visit_module-in-Ok-Some.field-0 c.visit_module.new.stack.items (c.walk.stack.items ++ c.in-Some.frame
     ∷ []) c.walk.stack.items c.in_ok-visit_module-in-Ok-Some.ensures.stack c.if-branch.true ∙ (λ i. c.walk.stack.items ++ same i ∷ []) in
     rw (stack, key.1)
-    (walking.looked_up_less c.walk.invariant.2 c.unresolved_star_of_trace.ensures.few c.in-Some.frame.specifier_text c.in-Some.ensures.specifier_text
+    (walking.looked_up_less c.walk.invariant.2 c.star_frame_at.ensures.few c.in-Some.frame.specifier_text c.in-Some.ensures.specifier_text
     c.resolve_specifier.new.root c.in-Ok-Some.ensures.stored c.in-Ok-Some.target (subst (gives c.resolve_specifier.new.root c.walk.root c.walk.here
     c.in-Some.frame.specifier_text.now) c.in-Ok-Some.field-0-is c.in-Ok-Some.ensures.gives) c.stored_modules_distinct.ensures key.0 c.in-Ok-Some.ensures.there)
 
@@ -188,7 +188,8 @@ walk-preserved-then-branch c =
     (map frame_view (c.walk.stack.items ++ c.in-Some.frame ∷ [])) c.in-Ok-Some.target explicit c.walk.collected) c.walk.collected
     c.in_ok-visit_module-in-Ok-Some.ensures.collected c.if-branch.true
     ∙ (λ i. walk_with_exports_of_module (map frame_view (c.walk.stack.items ++ same i ∷ [])) c.in-Ok-Some.target explicit c.walk.collected) in
-    let collected : c.visit_module.new.collected.collected ≡ with_module c.args.name_filter c.resolve_specifier.new.root (map frame_view (c.walk.stack.items
+    let collected : c.visit_module.new.collected.collected ≡ graph_with_put_module c.args.name_filter c.resolve_specifier.new.root
+    (map frame_view (c.walk.stack.items
     ++ here ∷ [])) c.in-Ok-Some.target c.walk.collected.collected = ap (λ (w : ExportWalkView). w.collected) state
     ∙ module_explicit c.args.name_filter c.resolve_specifier.new.root (map frame_view
     (c.walk.stack.items ++ here ∷ [])) c.in-Ok-Some.target c.walk.collected keeps in (
@@ -197,7 +198,7 @@ walk-preserved-then-branch c =
           c.resolve_specifier.ensures.counted c.walk.invariant.1),
       subst (λ (t : CollectedView). IsWalking c.args.name_filter c.args.root.now c.args.module_id
           c.resolve_specifier.new.root c.in-Ok-Some.target 0 c.visit_module.new.stack.items c.visit_module.new.visited.keys t (c.walk.invariant.0 + 1)) (sym
-          collected) (rw (stack, key.1) (walking.looked_up_entered c.walk.invariant.2 c.unresolved_star_of_trace.ensures.few c.in-Some.frame.specifier_text
+          collected) (rw (stack, key.1) (walking.looked_up_entered c.walk.invariant.2 c.star_frame_at.ensures.few c.in-Some.frame.specifier_text
           c.in-Some.ensures.specifier_text c.resolve_specifier.new.root c.in-Ok-Some.ensures.stored c.in-Ok-Some.target
           (subst (gives c.resolve_specifier.new.root c.walk.root c.walk.here c.in-Some.frame.specifier_text.now) c.in-Ok-Some.field-0-is
           c.in-Ok-Some.ensures.gives) c.stored_modules_distinct.ensures key.0 (sym c.is_name_search_done.ensures ∙ c.walk-test.true))),
@@ -207,7 +208,7 @@ walk-preserved-then-branch c =
 
 pub overflow_add-next-else-branch : goal.overflow_add-next-else-branch
 overflow_add-next-else-branch c = record {
-  fits = walking.fits c.walk.invariant.2 c.unresolved_star_of_trace.ensures.few c.in-Some.frame.specifier_text
+  fits = walking.fits c.walk.invariant.2 c.star_frame_at.ensures.few c.in-Some.frame.specifier_text
       c.in-Some.ensures.specifier_text;
 }
 
@@ -220,7 +221,7 @@ walk-smaller-else-branch c =
     let stack : c.visit_module.new.stack.items ≡ c.walk.stack.items = walking.if_old c.in_ok-visit_module-in-Ok-Some.field-0 c.visit_module.new.stack.items
     (c.walk.stack.items ++ c.in-Some.frame ∷ []) c.walk.stack.items c.in_ok-visit_module-in-Ok-Some.ensures.stack c.if-branch.false in
     rw (stack, key.1)
-    (walking.visited_less c.walk.invariant.2 c.unresolved_star_of_trace.ensures.few c.in-Some.frame.specifier_text c.in-Some.ensures.specifier_text
+    (walking.visited_less c.walk.invariant.2 c.star_frame_at.ensures.few c.in-Some.frame.specifier_text c.in-Some.ensures.specifier_text
     c.resolve_specifier.new.root c.in-Ok-Some.ensures.stored c.in-Ok-Some.target (subst (gives c.resolve_specifier.new.root c.walk.root c.walk.here
     c.in-Some.frame.specifier_text.now) c.in-Ok-Some.field-0-is c.in-Ok-Some.ensures.gives) c.stored_modules_distinct.ensures key.0)
 
@@ -243,7 +244,7 @@ walk-preserved-else-branch c =
           c.resolve_specifier.ensures.counted c.walk.invariant.1),
       subst (λ (t : CollectedView). IsWalking c.args.name_filter c.args.root.now c.args.module_id
           c.resolve_specifier.new.root c.walk.here (c.walk.next + 1) c.visit_module.new.stack.items c.visit_module.new.visited.keys t (c.walk.invariant.0 + 1))
-          (sym collected) (rw (stack, key.1) (walking.looked_up_visited c.walk.invariant.2 c.unresolved_star_of_trace.ensures.few c.in-Some.frame.specifier_text
+          (sym collected) (rw (stack, key.1) (walking.looked_up_visited c.walk.invariant.2 c.star_frame_at.ensures.few c.in-Some.frame.specifier_text
           c.in-Some.ensures.specifier_text c.resolve_specifier.new.root c.in-Ok-Some.ensures.stored c.in-Ok-Some.target
           (subst (gives c.resolve_specifier.new.root c.walk.root c.walk.here c.in-Some.frame.specifier_text.now) c.in-Ok-Some.field-0-is
           c.in-Ok-Some.ensures.gives) c.stored_modules_distinct.ensures key.0 (sym c.is_name_search_done.ensures ∙ c.walk-test.true))),
@@ -258,8 +259,8 @@ overflow_add-next-in-Some-pop c =
     ∷ []) c.walk.visited.keys c.walk.collected.collected c.walk.invariant.0 = rw c.in-Some-pop.ensures.items at c.walk.invariant.2 in
     record {
       fits = frame_fits c.pop.new.self.items c.in-Some-pop.frame walk
-          (walking.ended_here walk c.unresolved_star_of_trace.ensures.few (sym c.in_default.ensures.specifier_text))
-          (walking.few_here walk c.unresolved_star_of_trace.ensures.few);
+          (walking.ended_here walk c.star_frame_at.ensures.few (sym c.in_default.ensures.specifier_text))
+          (walking.few_here walk c.star_frame_at.ensures.few);
     }
 
 pub walk-preserved : goal.walk-preserved
@@ -268,8 +269,8 @@ walk-preserved c =
     ∷ []) c.walk.visited.keys c.walk.collected.collected c.walk.invariant.0 = rw c.in-Some-pop.ensures.items at c.walk.invariant.2 in (
       c.walk.invariant.0,
       c.walk.invariant.1,
-      walking_back c.pop.new.self.items c.in-Some-pop.frame walk (walking.ended_here walk c.unresolved_star_of_trace.ensures.few
-          (sym c.in_default.ensures.specifier_text)) (walking.few_here walk c.unresolved_star_of_trace.ensures.few) (sym c.is_name_search_done.ensures
+      walking_back c.pop.new.self.items c.in-Some-pop.frame walk (walking.ended_here walk c.star_frame_at.ensures.few
+          (sym c.in_default.ensures.specifier_text)) (walking.few_here walk c.star_frame_at.ensures.few) (sym c.is_name_search_done.ensures
           ∙ c.walk-test.true),
       c.walk.invariant.3,
       c.walk.invariant.4,
@@ -278,21 +279,22 @@ walk-preserved c =
 -- the result at the end, or a failed allocation for it
 abbrev Given : NameFilter → RootView → ModuleId → RootView → CollectedView → ℕ → Type 0
 Given name_filter old start root collected lookups =
-    IsExportWalkAnswer name_filter old root start collected.names (shared_groups is_along_stars collected.candidates) collected.unresolved lookups
+    IsExportWalkAnswer name_filter old root start collected.names (groups_with_shared_exporters is_along_stars collected.candidates) collected.unresolved
+    lookups
 
 given : (name_filter : NameFilter) (old : RootView) (start : ModuleId) (root : RootView) (collected : CollectedView) (lookups before now : ℕ)
     (answer : ModuleExports) → now ≡ before + lookups → resolved_export_views answer.resolved.entries ≡ collected.names
     → resolved_shared_name_views answer.shared.items
-    ≡ shared_groups is_along_stars collected.candidates → map unresolved_specifier_view answer.unresolved_specifiers.items ≡ collected.unresolved
+    ≡ groups_with_shared_exporters is_along_stars collected.candidates → map unresolved_star_view answer.unresolved_specifiers.items ≡ collected.unresolved
     → Given name_filter old start root collected lookups → (lookups : ℕ) × (now ≡ before + lookups)
     × IsExportWalkAnswer name_filter old root start (resolved_export_views
-    answer.resolved.entries) (resolved_shared_name_views answer.shared.items) (map unresolved_specifier_view answer.unresolved_specifiers.items) lookups
+    answer.resolved.entries) (resolved_shared_name_views answer.shared.items) (map unresolved_star_view answer.unresolved_specifiers.items) lookups
 given name_filter old start root collected lookups before now answer counted names shared unresolved is = (
   lookups,
   counted,
-  walked_alike name_filter old root start collected.names (resolved_export_views answer.resolved.entries) (shared_groups is_along_stars
+  walked_alike name_filter old root start collected.names (resolved_export_views answer.resolved.entries) (groups_with_shared_exporters is_along_stars
       collected.candidates) (resolved_shared_name_views answer.shared.items) collected.unresolved
-      (map unresolved_specifier_view answer.unresolved_specifiers.items) lookups names
+      (map unresolved_star_view answer.unresolved_specifiers.items) lookups names
       shared
       unresolved is,
 )
@@ -300,7 +302,7 @@ given name_filter old start root collected lookups before now answer counted nam
 refused : (name_filter : NameFilter) (old : RootView) (start : ModuleId) (root : RootView) (collected : CollectedView) (lookups before now : ℕ)
     → now ≡ before + lookups → Given name_filter old start root collected lookups → Broken name_filter old start root before now OutOfMemory
 refused name_filter old start root collected lookups before now counted is = broken_off name_filter old start root before now lookups OutOfMemory counted
-    (cut_after name_filter old root start collected.names (shared_groups is_along_stars collected.candidates) collected.unresolved lookups is)
+    (cut_after name_filter old root start collected.names (groups_with_shared_exporters is_along_stars collected.candidates) collected.unresolved lookups is)
 
 pub returns-in_default-pop-clause-answers : goal.returns-in_default-pop-clause-answers
 returns-in_default-pop-clause-answers c =
@@ -310,7 +312,7 @@ returns-in_default-pop-clause-answers c =
     c.in_ok-into_exports.ensures.unresolved
     (walked_end c.args.name_filter walk (sym c.is_name_search_done.ensures ∙ c.walk-test.true) (nil_from_length c.walk.stack.items
     (omega (arith, c.in_default-pop.ensures.cases.0, c.walk.stack.ok.0)))
-    (walking.ended_here walk c.unresolved_star_of_trace.ensures.few (sym c.in_default.ensures.specifier_text)))
+    (walking.ended_here walk c.star_frame_at.ensures.few (sym c.in_default.ensures.specifier_text)))
 
 pub returns-in_err-into_exports-clause-faults : goal.returns-in_err-into_exports-clause-faults
 returns-in_err-into_exports-clause-faults c =
@@ -321,7 +323,7 @@ returns-in_err-into_exports-clause-faults c =
     c.walk.counter.count c.walk.invariant.1
     (walked_end c.args.name_filter walk (sym c.is_name_search_done.ensures ∙ c.walk-test.true) (nil_from_length c.walk.stack.items
     (omega (arith, c.in_default-pop.ensures.cases.0, c.walk.stack.ok.0)))
-    (walking.ended_here walk c.unresolved_star_of_trace.ensures.few (sym c.in_default.ensures.specifier_text))))
+    (walking.ended_here walk c.star_frame_at.ensures.few (sym c.in_default.ensures.specifier_text))))
 
 pub returns-clause-answers : goal.returns-clause-answers
 returns-clause-answers c =

@@ -5,7 +5,7 @@ use Rattle.symbols_root.specs.Roots.{RootView, specifier_in}
 use Rattle.symbols_exports.specs.declared.export_chain.ResolvedExport.{ResolvedExport}
 use Rattle.symbols_exports.specs.declared.export_chain.ResolvedExportOrReExportAllPath.{ResolvedExportOrReExportAllPath}
 use Rattle.symbols_exports.specs.ExportChains.{resolved_export}
-use Rattle.symbols_exports.specs.PublicNames.{PublicNameView, public_name_view, exports_of_symbol, name_with_members}
+use Rattle.symbols_exports.specs.PublicNames.{PublicNameView, public_name_view, exports_of_symbol, public_names_with_members}
 use Rattle.symbols_exports.specs.inner.PublicNames.{public_names_of_export, IsExplicitExport}
 use Rattle.symbols_exports.specs.CollectedNames.{ResolvedExportView, resolved_export_view, resolved_export_views}
 use Rattle.symbols_exports.proofs.public_name.list_names.Goals as goal
@@ -24,12 +24,12 @@ explicit_rest : (root : RootView) (first : Named) (rest : List Named) → AreExp
 explicit_rest root first rest explicit k d within = explicit (suc k) d (omega (arith, within))
 
 listed_on : (root : RootView) (was made all : List PublicNameView) (first : Named) (rest : List Named) (export : ResolvedExport) (name : List ℕ)
-    → export ≡ resolved_export first.1 → name ≡ string_bytes first.0 → made ≡ was ++ name_with_members name (exports_of_symbol root.graph
+    → export ≡ resolved_export first.1 → name ≡ string_bytes first.0 → made ≡ was ++ public_names_with_members name (exports_of_symbol root.graph
     (specifier_in root export.«module») export.symbol_id) → was ++ flat_map (public_names_of_export root) (resolved_export_views (first ∷ rest)) ≡ all
     → made ++ flat_map (public_names_of_export root) (resolved_export_views rest) ≡ all
 listed_on root was made all first rest export name at named made_is before =
     let here : made ≡ was ++ public_names_of_export root (resolved_export_view first) =
-    made_is ∙ (λ i. was ++ name_with_members (named i) (exports_of_symbol root.graph (specifier_in root (at i).«module») (at i).symbol_id)) in
+    made_is ∙ (λ i. was ++ public_names_with_members (named i) (exports_of_symbol root.graph (specifier_in root (at i).«module») (at i).symbol_id)) in
     ap (λ items. items ++ flat_map (public_names_of_export root) (resolved_export_views rest)) here
     ∙ (append_assoc was (public_names_of_export root (resolved_export_view first)) (flat_map (public_names_of_export root) (resolved_export_views rest))
     ∙ before)

@@ -1,8 +1,8 @@
 use Rattle.std.proofs.Common.{ap, sym, ◌∙◌}
 use Rattle.std.proofs.lemmas.List.{nil_from_length}
 use Rattle.std.specs.Vec.Iter.{into_iter_items}
-use Rattle.symbols_exports.specs.SharedNameLists.{shared_groups}
-use Rattle.symbols_exports.specs.inner.Sharing.{is_along_stars}
+use Rattle.symbols_exports.specs.SharedNameLists.{groups_with_shared_exporters}
+use Rattle.symbols_exports.specs.inner.Collecting.{is_along_stars}
 use Rattle.symbols_exports.specs.CollectedNames.{resolved_shared_name_views}
 use Rattle.symbols_exports.specs.inner.Collecting.{shared_groups_of, chain_lists_view}
 use Rattle.symbols_exports.proofs.ShadowedChains.{none_left}
@@ -11,6 +11,7 @@ use Rattle.symbols_exports.proofs.shadowed.shared_names.Goals as goal
 pub returns : goal.returns
 returns c = none_left c.loop-traces.names (chain_lists_view (into_iter_items c.loop-traces.traces-iterator))
     (resolved_shared_name_views c.loop-traces.shared.items)
-    (shared_groups is_along_stars (shared_groups_of c.args.resolved.now.entries (chain_lists_view c.args.shadowed.items))) c.loop-traces.invariant.1
+    (groups_with_shared_exporters is_along_stars (shared_groups_of c.args.resolved.now.entries (chain_lists_view c.args.shadowed.items)))
+    c.loop-traces.invariant.1
     (ap chain_lists_view
     (nil_from_length (into_iter_items c.loop-traces.traces-iterator) (sym c.loop-traces.traces-iterator.rest.ok.0 ∙ c.in-None.ensures.steps.0)))

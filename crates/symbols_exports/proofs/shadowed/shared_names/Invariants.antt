@@ -1,13 +1,13 @@
 use Rattle.std.proofs.Common.{◌≡◌, ◌≤◌, ◌++◌, length}
 use Rattle.std.specs.Vec.Iter.{into_iter_items}
-use Rattle.symbols_exports.specs.SharedNameLists.{shared_groups}
-use Rattle.symbols_exports.specs.inner.Sharing.{is_along_stars}
+use Rattle.symbols_exports.specs.SharedNameLists.{groups_with_shared_exporters}
+use Rattle.symbols_exports.specs.inner.Collecting.{is_along_stars}
 use Rattle.symbols_exports.specs.CollectedNames.{resolved_shared_name_views}
 use Rattle.symbols_exports.specs.inner.Collecting.{shared_groups_of, chain_lists_view}
 use Rattle.symbols_exports.proofs.shadowed.shared_names.Given as goal
 
 abbrev pub invariant-loop-traces : goal.invariant-loop-traces
 invariant-loop-traces l = (length (into_iter_items l.traces-iterator) ≤ length l.names)
-    × (resolved_shared_name_views l.shared.items ++ shared_groups is_along_stars (shared_groups_of
-    l.names (chain_lists_view (into_iter_items l.traces-iterator))) ≡ shared_groups is_along_stars
+    × (resolved_shared_name_views l.shared.items ++ groups_with_shared_exporters is_along_stars (shared_groups_of
+    l.names (chain_lists_view (into_iter_items l.traces-iterator))) ≡ groups_with_shared_exporters is_along_stars
     (shared_groups_of l.fn.resolved.entries (chain_lists_view l.fn.shadowed.items)))

@@ -24,9 +24,9 @@ returns-then-not-lies_in-clause-first c = (
       c.if-gives_twice.ensures.shared_already,
 )
 
-pub returns-then-has_bad_shape-clause-first : goal.returns-then-has_bad_shape-clause-first
-returns-then-has_bad_shape-clause-first c = (
-  sym c.if-has_bad_shape.ensures,
+pub returns-then-has_misplaced_child_or_breaks_rule-clause-first : goal.returns-then-has_misplaced_child_or_breaks_rule-clause-first
+returns-then-has_misplaced_child_or_breaks_rule-clause-first c = (
+  sym c.if-has_misplaced_child_or_breaks_rule.ensures,
   clear_of_range _ _ _ c.requires.clear _ c.requires.listed c.if-any_bad_child.ensures _ c.requires.deep c.requires.room c.if-gives_twice.ensures.shared_already
       c.index-nodes-n.result c.if-not-lies_in.ensures,
 )
@@ -35,13 +35,13 @@ pub returns-then-depth-gt-DEEPEST-clause-first : goal.returns-then-depth-gt-DEEP
 returns-then-depth-gt-DEEPEST-clause-first c = (
   over_is_too_deep _ _ _ _ c.requires.clear c.requires.deep c.requires.room c.if-depth-gt-DEEPEST.true,
   clear_of_shape _ _ _ c.requires.clear _ c.requires.listed c.if-any_bad_child.ensures _ c.requires.deep c.requires.room c.if-gives_twice.ensures.shared_already
-      c.index-nodes-n.result c.if-not-lies_in.ensures c.if-has_bad_shape.ensures,
+      c.index-nodes-n.result c.if-not-lies_in.ensures c.if-has_misplaced_child_or_breaks_rule.ensures,
 )
 
 pub returns-clause-clear : goal.returns-clause-clear
 returns-clause-clear c =
     clear_of_all _ _ _ c.requires.clear _ c.requires.listed c.if-any_bad_child.ensures _ c.requires.deep c.requires.room c.if-gives_twice.ensures.shared_already
-    c.index-nodes-n.result c.if-not-lies_in.ensures c.if-has_bad_shape.ensures c.if-depth-gt-DEEPEST.false
+    c.index-nodes-n.result c.if-not-lies_in.ensures c.if-has_misplaced_child_or_breaks_rule.ensures c.if-depth-gt-DEEPEST.false
 
 pub returns-clause-deep : goal.returns-clause-deep
 returns-clause-deep c =

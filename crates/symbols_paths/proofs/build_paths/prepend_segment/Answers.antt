@@ -8,13 +8,13 @@ use Rattle.symbols_paths.proofs.build_paths.prepend_segment.Goals as goal
 pub returns-in-LinkStep-clause-view : goal.returns-in-LinkStep-clause-view
 returns-in-LinkStep-clause-view c =
     IfOk-weaker c.prepend_link.result _ _ (λ paths view root.
-    view root ∙ ap (λ heads. forest_below_links heads (paths_by_specifier root c.args.next.items)) (sym (ap (link_heads_of_segment root) c.in-LinkStep.is
+    view root ∙ ap (λ heads. forest_below_links heads (paths_by_specifier root c.args.next.items)) (sym (ap (link_heads_of_segment root) c.in-LinkStep.ensures
     ∙ heads_of_step root c.in-LinkStep.step))) c.prepend_link.ensures.view
 
 pub returns-in-LinkStep-clause-stored : goal.returns-in-LinkStep-clause-stored
 returns-in-LinkStep-clause-stored c =
     IfOk-weaker c.prepend_link.result _ _ (λ paths stored root a b.
-    stored root (subst (AreModulesStored root) (ap modules_of_segment c.in-LinkStep.is
+    stored root (subst (AreModulesStored root) (ap modules_of_segment c.in-LinkStep.ensures
     ∙ modules_of_one_step c.in-LinkStep.step) a 0 c.in-LinkStep.step.symbol.module_id (omega arith)) b) c.prepend_link.ensures.stored
 
 pub returns-in-WithParts-clause-view : goal.returns-in-WithParts-clause-view
@@ -23,12 +23,12 @@ returns-in-WithParts-clause-view c =
     IfOk-weaker c.prepend_segments_with_parts.result _ _ (λ paths view root.
     view root
     ∙ ap (λ heads. forest_below_links heads (paths_by_specifier root c.args.next.items))
-    (sym (ap (link_heads_of_segment root) x.is ∙ heads_of_under root x.parts x.inner)))
+    (sym (ap (link_heads_of_segment root) x.ensures ∙ heads_of_under root x.parts x.inner)))
     c.prepend_segments_with_parts.ensures.view
 
 pub returns-in-WithParts-clause-stored : goal.returns-in-WithParts-clause-stored
 returns-in-WithParts-clause-stored c =
     let x = c.in-WithParts in
     IfOk-weaker c.prepend_segments_with_parts.result _ _ (λ paths stored root a b.
-    stored root (subst (AreModulesStored root) (ap modules_of_segment x.is ∙ modules_of_under x.parts x.inner) a) b)
+    stored root (subst (AreModulesStored root) (ap modules_of_segment x.ensures ∙ modules_of_under x.parts x.inner) a) b)
     c.prepend_segments_with_parts.ensures.stored

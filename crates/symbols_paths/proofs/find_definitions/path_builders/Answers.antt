@@ -3,7 +3,7 @@ use Rattle.std.proofs.lemmas.Result.{IfOk-weaker, IfErr-weaker}
 use Rattle.symbols_ast.specs.declared.ids.ModuleId.{ModuleId}
 use Rattle.symbols_table.specs.Modules.{symbol_table_of_ref}
 use Rattle.symbols_paths.specs.inner.Needed.{IsNeededFrom}
-use Rattle.symbols_paths.specs.laws.Storing.{refused_wider, stores_wider}
+use Rattle.symbols_paths.specs.laws.Storing.{fault_of_storing_one_of_more, newly_stored_among_more}
 use Rattle.symbols_paths.proofs.Needing.{needed_in_newer}
 use Rattle.symbols_paths.proofs.Answering.{paths_found, paths_listed, no_symbol_there, symbol_there}
 use Rattle.symbols_paths.proofs.Results.{on_both}
@@ -54,11 +54,11 @@ returns-clause-faults c =
     inr (inr (record {
       known = c.in-Some.ensures.found.0 refl;
       has_symbol = has;
-      refused = refused_wider refused (λ v needed. needed_in_newer c.find_definition_paths_internal.ensures.after_call.keeps.grown
+      refused = fault_of_storing_one_of_more refused (λ v needed. needed_in_newer c.find_definition_paths_internal.ensures.after_call.keeps.grown
           (subst (λ (id : ModuleId). IsNeededFrom c.args.root.now id [] v) c.new-symbol.ensures.module needed));
     })))
     c.find_definition_paths_internal.ensures.after_call.keeps.refused
 
 pub returns-clause-stores : goal.returns-clause-stores
-returns-clause-stores c = stores_wider c.find_definition_paths_internal.ensures.stores
+returns-clause-stores c = newly_stored_among_more c.find_definition_paths_internal.ensures.stores
     (λ v needed. subst (λ (id : ModuleId). IsNeededFrom c.args.root.now id [] v) c.new-symbol.ensures.module needed)

@@ -6,13 +6,13 @@ use Rattle.std.proofs.lemmas.Result.{IfOk-weaker}
 use Rattle.std.proofs.lemmas.Bool.{and_left, and_right}
 use Rattle.symbols_root.specs.Roots.{specifier_in}
 use Rattle.symbols_paths.specs.PathTrees.{no_part}
-use Rattle.symbols_paths.specs.PartTargets.{lacks, prototype_name, is_class_at, export_of_symbol}
+use Rattle.symbols_paths.specs.PartTargets.{part_is_unresolved, prototype_name, is_class_decl_at, export_of_symbol}
 use Rattle.symbols_paths.specs.Views.{decl_by_specifier, strings_view}
 use Rattle.symbols_paths.specs.inner.Views.{first_part, later_parts}
 use Rattle.symbols_paths.proofs.PartTargetReads.{first_read, bytes_swapped, lacks_explicit}
 use Rattle.symbols_paths.proofs.QualifiedSteps.{some_parts}
 use Rattle.symbols_paths.proofs.part_target.exported_part_target.Goals as goal
-use Rattle.symbols_paths.proofs.part_target.exported_part_target.Goals.{else-eq-via-then-eq+else-is_class_at, else-eq-via-else-eq}
+use Rattle.symbols_paths.proofs.part_target.exported_part_target.Goals.{else-eq-via-then-eq+else-is_class_decl_at, else-eq-via-else-eq}
 
 pub returns-clause-view : goal.returns-clause-view
 returns-clause-view c =
@@ -27,14 +27,14 @@ returns-clause-view c =
       specifier = specifier_in root (c.new-symbol.ensures.«module» i);
       number = c.new-symbol.ensures.symbol i;
     }) (first_part parts)) ∙ sym c.in_default.ensures in
-    let without_alias : (bytes_eq prototype_name (first_part parts) && is_class_at root.graph decl) ≡ false = elim c.else-eq.branch [
-      | else-eq-via-then-eq+else-is_class_at w ↦
-          and_right (bytes_eq prototype_name (first_part parts)) (is_class_at root.graph decl) (sym w.if-is_class_at.ensures)
-      | else-eq-via-else-eq w ↦ and_left (bytes_eq prototype_name (first_part parts)) (is_class_at root.graph decl) (bytes_swapped (first_part parts)
+    let without_alias : (bytes_eq prototype_name (first_part parts) && is_class_decl_at root.graph decl) ≡ false = elim c.else-eq.branch [
+      | else-eq-via-then-eq+else-is_class_decl_at w ↦
+          and_right (bytes_eq prototype_name (first_part parts)) (is_class_decl_at root.graph decl) (sym w.if-is_class_decl_at.ensures)
+      | else-eq-via-else-eq w ↦ and_left (bytes_eq prototype_name (first_part parts)) (is_class_decl_at root.graph decl) (bytes_swapped (first_part parts)
           prototype_name (subst (λ name. bytes_eq name prototype_name ≡ false) first (sym w.if-eq.ensures)))
     ] in
     IfOk-weaker c.missing_part.result _ _ (λ part_target view. view root
-    ∙ ((λ i. lacks (record {
+    ∙ ((λ i. part_is_unresolved (record {
       specifier = decl.symbol.specifier;
       reason = no_part (named i);
       parts = some_parts parts

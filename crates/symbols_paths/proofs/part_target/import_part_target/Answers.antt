@@ -1,11 +1,11 @@
 use Rattle.std.proofs.Common.{◌∙◌}
 use Rattle.std.proofs.lemmas.Result.{IfOk-weaker}
 use Rattle.symbols_root.specs.Roots.{specifier_in}
-use Rattle.symbols_root.specs.laws.Numbers.{target_is}
+use Rattle.symbols_root.specs.laws.Numbers.{id_is_that_of_found_module}
 use Rattle.symbols_exports.specs.StarStatements.{resolve_specifier}
 use Rattle.symbols_paths.specs.Views.{strings_view}
 use Rattle.symbols_paths.specs.inner.Views.{first_part, later_parts}
-use Rattle.symbols_paths.specs.laws.Storing.{stores_then}
+use Rattle.symbols_paths.specs.laws.Storing.{newly_stored_by_two_calls}
 use Rattle.symbols_paths.proofs.PartTargetReads.{named_specifier_text}
 use Rattle.symbols_paths.proofs.SearchedExports.{searched_itself}
 use Rattle.symbols_paths.proofs.Needing.{refused_target}
@@ -30,7 +30,7 @@ returns-in-Ok-Some-clause-view c =
     let old = c.args.root.now in
     let mid = c.resolve_specifier.new.root in
     let found = resolve_specifier old.graph (specifier_in old c.args.module_id) c.args.specifier_text.now in
-    let decl_targets = target_is mid c.in-Ok-Some.target found (rw c.in-Ok-Some.field-0-is at c.in-Ok-Some.ensures.gives) in
+    let decl_targets = id_is_that_of_found_module mid c.in-Ok-Some.target found (rw c.in-Ok-Some.field-0-is at c.in-Ok-Some.ensures.gives) in
     IfOk-weaker c.module_part_target.result _ _ (λ part_target view. view
     ∙ named_specifier_text old mid (specifier_in old c.args.module_id) c.args.specifier_text.now
     (first_part (strings_view c.args.parts.now)) (later_parts
@@ -41,7 +41,7 @@ returns-in-Ok-Some-clause-keeps c =
     let old = c.args.root.now in
     let mid = c.resolve_specifier.new.root in
     let found = resolve_specifier old.graph (specifier_in old c.args.module_id) c.args.specifier_text.now in
-    let decl_targets = target_is mid c.in-Ok-Some.target found (rw c.in-Ok-Some.field-0-is at c.in-Ok-Some.ensures.gives) in
+    let decl_targets = id_is_that_of_found_module mid c.in-Ok-Some.target found (rw c.in-Ok-Some.field-0-is at c.in-Ok-Some.ensures.gives) in
     keeps_wider c.module_part_target.result c.in-Ok-Some.ensures.keeps.grown (searched_there old mid c.args.module_id c.in-Ok-Some.target
     c.args.specifier_text.now (first_part (strings_view c.args.parts.now)) c.in-Ok-Some.ensures.keeps.grown decl_targets.is)
     c.module_part_target.ensures.keeps
@@ -71,7 +71,8 @@ returns-in-Ok-Some-clause-stores c =
     let old = c.args.root.now in
     let mid = c.resolve_specifier.new.root in
     let found = resolve_specifier old.graph (specifier_in old c.args.module_id) c.args.specifier_text.now in
-    let decl_targets = target_is mid c.in-Ok-Some.target found (rw c.in-Ok-Some.field-0-is at c.in-Ok-Some.ensures.gives) in
+    let decl_targets = id_is_that_of_found_module mid c.in-Ok-Some.target found (rw c.in-Ok-Some.field-0-is at c.in-Ok-Some.ensures.gives) in
     let part = first_part (strings_view c.args.parts.now) in
-    stores_then (stores_imported old mid c.args.module_id c.args.specifier_text.now part c.in-Ok-Some.ensures.stores) c.module_part_target.ensures.stores
+    newly_stored_by_two_calls (stores_imported old mid c.args.module_id c.args.specifier_text.now part c.in-Ok-Some.ensures.stores)
+    c.module_part_target.ensures.stores
     (searched_there old mid c.args.module_id c.in-Ok-Some.target c.args.specifier_text.now part c.in-Ok-Some.ensures.keeps.grown decl_targets.is)

@@ -11,14 +11,14 @@ returns-in_ok-push-in-End-clause-view c = λ root.
     named_to root c.push.new.self x.end
     ∙ (linked_with root x.segments.items c.push.new.self.items c.args.segment (forest_of_tree (leaf (path_leaf_of_end root x.end)))
     c.in_ok-push-in-End.ensures.items
-    ∙ ap (forest_below_links (link_heads_of_segment root c.args.segment)) (sym (named_to root x.segments x.end) ∙ ap (built_path root) (sym x.is)))
+    ∙ ap (forest_below_links (link_heads_of_segment root c.args.segment)) (sym (named_to root x.segments x.end) ∙ ap (built_path root) (sym x.ensures)))
 
 pub returns-in_ok-push-in-End-clause-stored : goal.returns-in_ok-push-in-End-clause-stored
 returns-in_ok-push-in-End-clause-stored c = λ root a b.
     let x = c.in-End in
     subst (AreModulesStored root) (sym (modules_to c.push.new.self x.end))
     (stored_segment root x.segments.items c.push.new.self.items c.args.segment (module_of_end x.end ∷ []) c.in_ok-push-in-End.ensures.items a
-    (subst (AreModulesStored root) (ap modules_of_builder x.is ∙ modules_to x.segments x.end) b))
+    (subst (AreModulesStored root) (ap modules_of_builder x.ensures ∙ modules_to x.segments x.end) b))
 
 pub returns-in_ok-push-in-Fork-clause-view : goal.returns-in_ok-push-in-Fork-clause-view
 returns-in_ok-push-in-Fork-clause-view c = λ root.
@@ -27,11 +27,11 @@ returns-in_ok-push-in-Fork-clause-view c = λ root.
     ∙ (linked_with root x.segments.items c.push-in-Fork.new.self.items c.args.segment
     (joined_forests (built_paths root x.branches.items) (built_path root x.last.value)) c.in_ok-push-in-Fork.ensures.items
     ∙ ap (forest_below_links (link_heads_of_segment root c.args.segment)) (sym (named_fork root x.segments x.branches x.last)
-    ∙ ap (built_path root) (sym x.is)))
+    ∙ ap (built_path root) (sym x.ensures)))
 
 pub returns-in_ok-push-in-Fork-clause-stored : goal.returns-in_ok-push-in-Fork-clause-stored
 returns-in_ok-push-in-Fork-clause-stored c = λ root a b.
     let x = c.in-Fork in
     subst (AreModulesStored root) (sym (modules_fork c.push-in-Fork.new.self x.branches x.last))
     (stored_segment root x.segments.items c.push-in-Fork.new.self.items c.args.segment (modules_of_builders x.branches.items ++ modules_of_builder x.last.value)
-    c.in_ok-push-in-Fork.ensures.items a (subst (AreModulesStored root) (ap modules_of_builder x.is ∙ modules_fork x.segments x.branches x.last) b))
+    c.in_ok-push-in-Fork.ensures.items a (subst (AreModulesStored root) (ap modules_of_builder x.ensures ∙ modules_fork x.segments x.branches x.last) b))

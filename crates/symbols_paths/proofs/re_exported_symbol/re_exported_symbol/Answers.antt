@@ -1,7 +1,7 @@
 use Rattle.std.proofs.Common.{◌∙◌, ap}
 use Rattle.symbols_root.specs.Roots.{specifier_in}
 use Rattle.symbols_root.specs.laws.Growing.{has_grown_trans}
-use Rattle.symbols_root.specs.laws.Numbers.{target_is}
+use Rattle.symbols_root.specs.laws.Numbers.{id_is_that_of_found_module}
 use Rattle.symbols_exports.specs.StarStatements.{resolve_specifier}
 use Rattle.symbols_paths.proofs.Needing.{refused_target}
 use Rattle.symbols_paths.proofs.ResolvedSpecifiers.{there_searched, refused_along, none_along, some_along, some_stored}
@@ -22,7 +22,7 @@ returns-in-Err-clause-keeps c =
 
 pub returns-in-Err-export_of-clause-keeps : goal.returns-in-Err-export_of-clause-keeps
 returns-in-Err-export_of-clause-keeps c =
-    let decl_targets = target_is c.resolve_specifier.new.root c.in-Ok-Some.target (resolve_specifier c.args.root.now.graph
+    let decl_targets = id_is_that_of_found_module c.resolve_specifier.new.root c.in-Ok-Some.target (resolve_specifier c.args.root.now.graph
     (specifier_in c.args.root.now c.args.module_id) c.args.specifier_text.now) (rw c.in-Ok-Some.field-0-is at c.in-Ok-Some.ensures.gives) in
     let first = c.in-Ok-Some.ensures.keeps.grown in
     let then = c.in-Err-export_of.ensures in
@@ -40,7 +40,7 @@ returns-in-Ok-None-export_of-clause-keeps c =
 
 pub returns-in-Ok-None-export_of-clause-gives : goal.returns-in-Ok-None-export_of-clause-gives
 returns-in-Ok-None-export_of-clause-gives c =
-    let decl_targets = target_is c.resolve_specifier.new.root c.in-Ok-Some.target (resolve_specifier c.args.root.now.graph
+    let decl_targets = id_is_that_of_found_module c.resolve_specifier.new.root c.in-Ok-Some.target (resolve_specifier c.args.root.now.graph
     (specifier_in c.args.root.now c.args.module_id) c.args.specifier_text.now) (rw c.in-Ok-Some.field-0-is at c.in-Ok-Some.ensures.gives) in
     none_along c.args.root.now c.resolve_specifier.new.root c.export_of.new.root (specifier_in c.args.root.now c.args.module_id) c.args.specifier_text.now
     c.args.name.now c.in-Ok-Some.target c.in-Ok-None-export_of.ensures.answers.0 c.in-Ok-Some.ensures.keeps.grown decl_targets
@@ -52,7 +52,7 @@ returns-in-Ok-Some-export_of-clause-keeps c =
 
 pub returns-in-Ok-Some-export_of-clause-gives : goal.returns-in-Ok-Some-export_of-clause-gives
 returns-in-Ok-Some-export_of-clause-gives c =
-    let decl_targets = target_is c.resolve_specifier.new.root c.in-Ok-Some.target (resolve_specifier c.args.root.now.graph
+    let decl_targets = id_is_that_of_found_module c.resolve_specifier.new.root c.in-Ok-Some.target (resolve_specifier c.args.root.now.graph
     (specifier_in c.args.root.now c.args.module_id) c.args.specifier_text.now) (rw c.in-Ok-Some.field-0-is at c.in-Ok-Some.ensures.gives) in
     some_along c.args.root.now c.resolve_specifier.new.root c.export_of.new.root (specifier_in c.args.root.now c.args.module_id) c.args.specifier_text.now
     c.args.name.now c.in-Ok-Some.target c.in-Ok-Some-export_of.path c.new.result c.in-Ok-Some-export_of.ensures.answers.0 c.in-Ok-Some.ensures.keeps.grown
@@ -77,7 +77,8 @@ pub returns-in-Err-export_of-clause-stores : goal.returns-in-Err-export_of-claus
 returns-in-Err-export_of-clause-stores c =
     let old = c.args.root.now in
     let mid = c.resolve_specifier.new.root in
-    let decl_targets = target_is mid c.in-Ok-Some.target (resolve_specifier old.graph (specifier_in old c.args.module_id) c.args.specifier_text.now)
+    let decl_targets = id_is_that_of_found_module mid c.in-Ok-Some.target
+    (resolve_specifier old.graph (specifier_in old c.args.module_id) c.args.specifier_text.now)
     (rw c.in-Ok-Some.field-0-is at c.in-Ok-Some.ensures.gives) in
     stores_along old mid c.export_of.new.root c.args.module_id c.in-Ok-Some.target c.args.specifier_text.now c.args.name.now
     c.in-Ok-Some.ensures.keeps.grown c.requires.occurs decl_targets.is c.in-Ok-Some.ensures.stores
@@ -88,7 +89,8 @@ pub returns-in-Ok-None-export_of-clause-stores : goal.returns-in-Ok-None-export_
 returns-in-Ok-None-export_of-clause-stores c =
     let old = c.args.root.now in
     let mid = c.resolve_specifier.new.root in
-    let decl_targets = target_is mid c.in-Ok-Some.target (resolve_specifier old.graph (specifier_in old c.args.module_id) c.args.specifier_text.now)
+    let decl_targets = id_is_that_of_found_module mid c.in-Ok-Some.target
+    (resolve_specifier old.graph (specifier_in old c.args.module_id) c.args.specifier_text.now)
     (rw c.in-Ok-Some.field-0-is at c.in-Ok-Some.ensures.gives) in
     stores_along old mid c.export_of.new.root c.args.module_id c.in-Ok-Some.target c.args.specifier_text.now c.args.name.now
     c.in-Ok-Some.ensures.keeps.grown c.requires.occurs decl_targets.is c.in-Ok-Some.ensures.stores
@@ -99,7 +101,8 @@ pub returns-in-Ok-Some-export_of-clause-stores : goal.returns-in-Ok-Some-export_
 returns-in-Ok-Some-export_of-clause-stores c =
     let old = c.args.root.now in
     let mid = c.resolve_specifier.new.root in
-    let decl_targets = target_is mid c.in-Ok-Some.target (resolve_specifier old.graph (specifier_in old c.args.module_id) c.args.specifier_text.now)
+    let decl_targets = id_is_that_of_found_module mid c.in-Ok-Some.target
+    (resolve_specifier old.graph (specifier_in old c.args.module_id) c.args.specifier_text.now)
     (rw c.in-Ok-Some.field-0-is at c.in-Ok-Some.ensures.gives) in
     stores_along old mid c.export_of.new.root c.args.module_id c.in-Ok-Some.target c.args.specifier_text.now c.args.name.now
     c.in-Ok-Some.ensures.keeps.grown c.requires.occurs decl_targets.is c.in-Ok-Some.ensures.stores

@@ -3,7 +3,7 @@ use Rattle.std.proofs.lemmas.List.{nil_from_length}
 use Rattle.symbols_nodes.specs.References.{import_type}
 use Rattle.symbols_root.specs.Roots.{specifier_in}
 use Rattle.symbols_paths.specs.PathTrees.{QualifiedNameParts}
-use Rattle.symbols_paths.specs.NeededModules.{IsNeededByReference, StoresOnly}
+use Rattle.symbols_paths.specs.NeededModules.{IsNeededByReference, AreNewlyStoredAmong}
 use Rattle.symbols_paths.specs.inner.PathBuilders.{remaining_parts, built_paths}
 use Rattle.symbols_paths.specs.DepAnswers.{resolved_dep_entry_view}
 use Rattle.symbols_paths.proofs.DepEntries.{import_answer}
@@ -37,5 +37,5 @@ returns-then-is_empty-clause-stores c =
     let root = c.args.root.now in
     let parts = remaining_parts c.args.parts.now in
     let none = nil_from_length parts (none_at (length parts) (sym c.if-is_empty.true ∙ c.is_empty.ensures)) in
-    subst (λ (ps : QualifiedNameParts). StoresOnly root c.resolve_import_type.new.root (IsNeededByReference root.rules root.graph
+    subst (λ (ps : QualifiedNameParts). AreNewlyStoredAmong root c.resolve_import_type.new.root (IsNeededByReference root.rules root.graph
     (specifier_in root c.args.module_id) (import_type c.args.specifier_text.now ps))) (sym none) c.resolve_import_type.ensures.stores

@@ -4,21 +4,21 @@ use Rattle.symbols_root.specs.Roots.{specifier_in}
 use Rattle.symbols_root.specs.laws.Growing.{has_grown_refl}
 use Rattle.symbols_answers.specs.Questions.{query_name, query_deps}
 use Rattle.symbols_queries.proofs.QueriesAnswered.{no_refusal, module_given, symbol_given}
-use Rattle.symbols_paths.specs.laws.Storing.{stores_nothing}
+use Rattle.symbols_paths.specs.laws.Storing.{newly_stored_none}
 use Rattle.symbols_queries.proofs.answer_queries.answer_on.Goals as goal
 
 pub returns-in-Module-clause-keeps : goal.returns-in-Module-clause-keeps
 returns-in-Module-clause-keeps c = record { grown = has_grown_refl c.args.root.now; refused = tt; enough = λ wide. tt }
 
 pub returns-in-Module-clause-given : goal.returns-in-Module-clause-given
-returns-in-Module-clause-given c = rw c.in-Module.is (module_given c.args.root.now c.args.module_id c.specifier_from_id.result.now c.requires c.specifier_from_id.ensures)
+returns-in-Module-clause-given c = rw c.in-Module.is (module_given c.args.root.now c.args.module_id c.specifier_from_id.result.now c.requires.known c.specifier_from_id.ensures)
 
 pub returns-in-Symbol-clause-keeps : goal.returns-in-Symbol-clause-keeps
 returns-in-Symbol-clause-keeps c = record { grown = has_grown_refl c.args.root.now; refused = tt; enough = λ wide. tt }
 
 pub returns-in-Symbol-clause-given : goal.returns-in-Symbol-clause-given
 returns-in-Symbol-clause-given c = rw c.in-Symbol.is
-    (symbol_given c.args.root.now c.args.module_id (id_view c.in-Symbol.id) c.symbol_id_from_swc.result c.requires c.symbol_id_from_swc.ensures)
+    (symbol_given c.args.root.now c.args.module_id (id_view c.in-Symbol.id) c.symbol_id_from_swc.result c.requires.known c.symbol_id_from_swc.ensures)
 
 pub returns-in-Name-clause-keeps : goal.returns-in-Name-clause-keeps
 returns-in-Name-clause-keeps c =
@@ -40,19 +40,19 @@ returns-in-Deps-clause-keeps c =
 
 pub returns-in-Module-clause-stores : goal.returns-in-Module-clause-stores
 returns-in-Module-clause-stores c =
-    stores_nothing c.args.root.now
+    newly_stored_none c.args.root.now
 
 pub returns-in-Symbol-clause-stores : goal.returns-in-Symbol-clause-stores
 returns-in-Symbol-clause-stores c =
-    stores_nothing c.args.root.now
+    newly_stored_none c.args.root.now
 
 pub returns-in-Name-clause-stores : goal.returns-in-Name-clause-stores
 returns-in-Name-clause-stores c =
-    stores_nothing c.args.root.now
+    newly_stored_none c.args.root.now
 
 pub returns-in-Deps-clause-stores : goal.returns-in-Deps-clause-stores
 returns-in-Deps-clause-stores c =
-    stores_nothing c.args.root.now
+    newly_stored_none c.args.root.now
 
 pub returns-in-Exports-clause-stores : goal.returns-in-Exports-clause-stores
 returns-in-Exports-clause-stores c = rw c.in-Exports.is c.exports_answer.ensures.stores

@@ -9,7 +9,7 @@ use Rattle.symbols_answers.specs.Stored.{module_of_leaf}
 use Rattle.symbols_queries.specs.AnswerViews.{path_end_view}
 use Rattle.symbols_queries.proofs.QueriesAnswered.{memory_refused, paths_given, paths_answered, paths_refused, paths_enough}
 use Rattle.symbols_queries.proofs.PathModules.{ends_there}
-use Rattle.symbols_paths.specs.laws.Storing.{stores_wider}
+use Rattle.symbols_paths.specs.laws.Storing.{newly_stored_among_more}
 use Rattle.symbols_queries.proofs.answer_queries.leaves_answer.Goals as goal
 
 pub returns-in-Err-clause-keeps : goal.returns-in-Err-clause-keeps
@@ -55,12 +55,12 @@ path_ends_by_specifier-requires c = c.in-Ok.ensures.stored
 
 pub returns-in-Err-clause-stores : goal.returns-in-Err-clause-stores
 returns-in-Err-clause-stores c =
-    stores_wider c.in-Err.ensures.stores (λ v needed. needed)
+    newly_stored_among_more c.in-Err.ensures.stores (λ v needed. needed)
 
 pub returns-in_err-path_ends_by_specifier-in-Ok-clause-stores : goal.returns-in_err-path_ends_by_specifier-in-Ok-clause-stores
 returns-in_err-path_ends_by_specifier-in-Ok-clause-stores c =
-    stores_wider c.in-Ok.ensures.stores (λ v needed. needed)
+    newly_stored_among_more c.in-Ok.ensures.stores (λ v needed. needed)
 
 pub returns-in_ok-path_ends_by_specifier-in-Ok-clause-stores : goal.returns-in_ok-path_ends_by_specifier-in-Ok-clause-stores
 returns-in_ok-path_ends_by_specifier-in-Ok-clause-stores c =
-    stores_wider c.in-Ok.ensures.stores (λ v needed. needed)
+    newly_stored_among_more c.in-Ok.ensures.stores (λ v needed. needed)

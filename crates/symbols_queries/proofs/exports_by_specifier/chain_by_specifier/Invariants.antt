@@ -1,5 +1,5 @@
-use Rattle.symbols_exports.specs.ExportChains.{statements_of_chain, remaining_suffixes}
-use Rattle.symbols_exports.specs.ExportViews.{star_statement_by_specifier, AreStatementsStored}
+use Rattle.symbols_exports.specs.ExportChains.{statements_of_chain, remaining_chain_suffixes}
+use Rattle.symbols_exports.specs.ExportViews.{star_statement_by_specifier, AreReferrersOfStarsStored}
 use Rattle.std.proofs.Common.{◌≡◌, ◌++◌, map}
 use Rattle.std.specs.Prelude.{filter_map}
 use Rattle.symbols_queries.specs.AnswerViews.{star_statement_by_specifier_view}
@@ -9,7 +9,7 @@ use Rattle.symbols_queries.proofs.exports_by_specifier.chain_by_specifier.Given 
 abbrev pub invariant-loop-rest : goal.invariant-loop-rest
 invariant-loop-rest l = record {
   named : map star_statement_by_specifier_view l.statements.items
-      ++ map (star_statement_by_specifier l.root) (filter_map first_statement (remaining_suffixes l.rest-iterator))
+      ++ map (star_statement_by_specifier l.root) (filter_map first_statement (remaining_chain_suffixes l.rest-iterator))
       ≡ map (star_statement_by_specifier l.root) (statements_of_chain l.chain);
-  known : AreStatementsStored l.root (filter_map first_statement (remaining_suffixes l.rest-iterator));
+  known : AreReferrersOfStarsStored l.root (filter_map first_statement (remaining_chain_suffixes l.rest-iterator));
 }

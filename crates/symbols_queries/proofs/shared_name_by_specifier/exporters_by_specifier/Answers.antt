@@ -1,7 +1,7 @@
 use Rattle.std.proofs.Common.{sym, subst, arith}
 use Rattle.std.specs.Prelude.{string_bytes}
 use Rattle.symbols_exports.specs.CollectedNames.{resolved_chain_view}
-use Rattle.symbols_exports.specs.ExportViews.{export_by_specifier, IsExportStored}
+use Rattle.symbols_exports.specs.ExportViews.{export_by_specifier, AreModulesOfExportStored}
 use Rattle.symbols_queries.specs.AnswerViews.{exporter_view}
 use Rattle.symbols_queries.proofs.Known.{mapped_at}
 use Rattle.symbols_queries.proofs.Naming.{named_more}
@@ -12,18 +12,20 @@ exporter_by_specifier-requires-clause-statements c =
     let exporters = c.deref-chain-items.result.now in
     let viewed = resolved_chain_view (string_bytes c.args.shared.now.name) in
     let all = rw (← c.deref-chain-items.ensures.value) at c.requires in
-    let here = mapped_at (IsExportStored c.args.root.now) viewed exporters c.loop-chain.chain-index c.chain-item.result (omega (arith, c.loop-chain-test.true))
+    let here = mapped_at (AreModulesOfExportStored c.args.root.now) viewed exporters c.loop-chain.chain-index c.chain-item.result
+    (omega (arith, c.loop-chain-test.true))
     all in
-    (subst (λ chain. IsExportStored c.args.root.now (viewed chain)) (sym c.chain-item.is) here).statements_are_stored
+    (subst (λ chain. AreModulesOfExportStored c.args.root.now (viewed chain)) (sym c.chain-item.is) here).statements_are_stored
 
 pub exporter_by_specifier-requires-clause-exporter : goal.exporter_by_specifier-requires-clause-exporter
 exporter_by_specifier-requires-clause-exporter c =
     let exporters = c.deref-chain-items.result.now in
     let viewed = resolved_chain_view (string_bytes c.args.shared.now.name) in
     let all = rw (← c.deref-chain-items.ensures.value) at c.requires in
-    let here = mapped_at (IsExportStored c.args.root.now) viewed exporters c.loop-chain.chain-index c.chain-item.result (omega (arith, c.loop-chain-test.true))
+    let here = mapped_at (AreModulesOfExportStored c.args.root.now) viewed exporters c.loop-chain.chain-index c.chain-item.result
+    (omega (arith, c.loop-chain-test.true))
     all in
-    (subst (λ chain. IsExportStored c.args.root.now (viewed chain)) (sym c.chain-item.is) here).export_is_stored
+    (subst (λ chain. AreModulesOfExportStored c.args.root.now (viewed chain)) (sym c.chain-item.is) here).export_is_stored
 
 pub loop-chain-preserved : goal.loop-chain-preserved
 loop-chain-preserved c =

@@ -2,7 +2,7 @@ use Rattle.std.proofs.Common.{◌≡◌, true, false, option_copied, Some, None,
 use Rattle.std.proofs.lemmas.List.{length_push}
 use Rattle.symbols_ast.specs.Graph.{content_types_dependency}
 use Rattle.symbols_root.specs.laws.Specifiers.{on_err}
-use Rattle.symbols_root.specs.laws.TypesChains.{only_chain}
+use Rattle.symbols_root.specs.laws.TypesChains.{types_chain_is_unique}
 use Rattle.symbols_root.proofs.Following.{IsFollowing, borrowed_specifiers, visited_is, visited_push, following_first}
 use Rattle.symbols_root.proofs.Following.{following_over, following_back, following_room, following_last, following_step, types_followed}
 use Rattle.symbols_root.proofs.types_chain.get_prefer_types.Goals as goal
@@ -53,16 +53,16 @@ returns-clause-resolved c = following_over (subst (IsFollowing c.args.graph.now 
     (option_copied c.types.resolved_to)) (ap option_copied c.in_default.is) c.types.invariant)
 
 pub returns-then-is_visited-clause-chain : goal.returns-then-is_visited-clause-chain
-returns-then-is_visited-clause-chain c = only_chain c.args.graph.now c.args.specifier.now
+returns-then-is_visited-clause-chain c = types_chain_is_unique c.args.graph.now c.args.specifier.now
 
 pub returns-in_default-types_dependency-clause-chain : goal.returns-in_default-types_dependency-clause-chain
-returns-in_default-types_dependency-clause-chain c = only_chain c.args.graph.now c.args.specifier.now
+returns-in_default-types_dependency-clause-chain c = types_chain_is_unique c.args.graph.now c.args.specifier.now
 
 pub returns-in_err-insert-clause-chain : goal.returns-in_err-insert-clause-chain
-returns-in_err-insert-clause-chain c = only_chain c.args.graph.now c.args.specifier.now
+returns-in_err-insert-clause-chain c = types_chain_is_unique c.args.graph.now c.args.specifier.now
 
 pub returns-clause-chain : goal.returns-clause-chain
-returns-clause-chain c = only_chain c.args.graph.now c.args.specifier.now
+returns-clause-chain c = types_chain_is_unique c.args.graph.now c.args.specifier.now
 
 pub returns-in_err-insert-clause-types : goal.returns-in_err-insert-clause-types
 returns-in_err-insert-clause-types c =

@@ -1,7 +1,7 @@
 use Rattle.std.proofs.Common.{sym, subst}
 use Rattle.symbols_queries.specs.declared.answer.Answer.{Answer}
 use Rattle.symbols_queries.specs.AnswerViews.{answer_view}
-use Rattle.symq_core.specs.AnswerData.{answer_data}
+use Rattle.symq_core.specs.AnswerData.{answer_json}
 use Rattle.symq_core.specs.inner.JsonWriting.{AppendsValueTokensIfOk}
 use Rattle.symq_core.proofs.answer_line.write_answer.Goals as goal
 
@@ -9,5 +9,5 @@ pub returns-in-Definitions : goal.returns-in-Definitions
 returns-in-Definitions c =
     let answered = rw c.deref-in-Definitions.ensures.value at c.write_list-in-Definitions.ensures in
     subst (λ (x : Answer). AppendsValueTokensIfOk c.write_list-in-Definitions.result c.args.out.now c.write_list-in-Definitions.new.out
-    (answer_data (answer_view x)))
+    (answer_json (answer_view x)))
     (sym c.in-Definitions.is) answered

@@ -19,7 +19,7 @@ returns-in-Ok-clause-started g c =
             c.in_ok-bytes.ensures.cases) c.read.ensures,
         c.as_str.ensures.value,
       );
-      is_graph = ap read_outcome_of_bytes (sym c.as_slice.ensures.value) ∙ c.in-Ok.ensures;
+      is_graph_of_bytes = ap read_outcome_of_bytes (sym c.as_slice.ensures.value) ∙ c.in-Ok.ensures;
     }
 
 pub returns-clause-fails : goal.returns-clause-fails

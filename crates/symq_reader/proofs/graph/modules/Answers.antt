@@ -1,10 +1,10 @@
 use Rattle.std.proofs.Common.{rules}
-use Rattle.symq_reader.specs.GraphText.{as_module, module_shape}
+use Rattle.symq_reader.specs.GraphText.{as_module, raw_module_view}
 use Rattle.symq_reader.proofs.ListRounds.{each_round}
 use Rattle.symq_reader.proofs.graph.modules.Goals as goal
 
 pub loop-item-preserved : goal.loop-item-preserved
 loop-item-preserved c =
     let l = c.loop-item in
-    each_round as_module module_shape l.modules.items c.push.new.self.items c.in_ok-module.field-0 c.item-item.result c.in-Some.items.now l.item-index _
+    each_round as_module raw_module_view l.modules.items c.push.new.self.items c.in_ok-module.field-0 c.item-item.result c.in-Some.items.now l.item-index _
     c.loop-item-test.true c.item-item.is c.in_ok-module.ensures (search rules) l.invariant

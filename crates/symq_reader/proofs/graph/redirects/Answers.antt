@@ -1,10 +1,11 @@
 use Rattle.std.proofs.Common.{rules}
-use Rattle.symq_reader.specs.GraphText.{as_redirect, redirect_shape}
+use Rattle.symq_reader.specs.GraphText.{as_redirect, raw_redirect_view}
 use Rattle.symq_reader.proofs.ListRounds.{each_round}
 use Rattle.symq_reader.proofs.graph.redirects.Goals as goal
 
 pub loop-item-preserved : goal.loop-item-preserved
 loop-item-preserved c =
     let l = c.loop-item in
-    each_round as_redirect redirect_shape l.redirects.items c.push.new.self.items c.in_ok-redirect.field-0 c.item-item.result c.in-Some.items.now l.item-index _
+    each_round as_redirect raw_redirect_view l.redirects.items c.push.new.self.items c.in_ok-redirect.field-0 c.item-item.result c.in-Some.items.now
+    l.item-index _
     c.loop-item-test.true c.item-item.is c.in_ok-redirect.ensures (search rules) l.invariant

@@ -4,7 +4,7 @@ use Rattle.symbols_ast.specs.declared.tree.names.KindName.TheVariants as Name
 use Rattle.symq_reader.specs.inner.Objects.{object_data}
 use Rattle.symq_reader.specs.inner.Reading.{IsReadResult, IsReadFault}
 use Rattle.symq_reader.specs.KindShapes.{read_as_kind}
-use Rattle.symq_reader.specs.KindShapesTable.{kind_shape}
+use Rattle.symq_reader.specs.KindShapesTable.{kind_name_and_field_values}
 use Rattle.symq_reader.specs.ReadKinds.{node_kind_by_tag}
 use Rattle.symq_reader.proofs.KindTexts.{type_ann_named}
 use Rattle.symq_reader.proofs.kinds.kind_by_tag.Goals as goal
@@ -18,7 +18,7 @@ returns-in_err-ts_type_ann c =
     let fault : IsReadFault (node_kind_by_tag c.args.kind.now d) c.in_err-ts_type_ann.field-0.0 =
     subst (λ o. IsReadFault o c.in_err-ts_type_ann.field-0.0) (sym is) c.in_err-ts_type_ann.ensures in
     let given : c.from_residual.result ≡ Err c.in_err-ts_type_ann.field-0.0 = search rules in
-    subst (λ r. IsReadResult kind_shape r (node_kind_by_tag c.args.kind.now d)) (sym given) fault
+    subst (λ r. IsReadResult kind_name_and_field_values r (node_kind_by_tag c.args.kind.now d)) (sym given) fault
 
 pub returns-then-eq : goal.returns-then-eq
 returns-then-eq c =

@@ -1,7 +1,7 @@
 use Rattle.std.proofs.Common.{◌≡◌, false, true, refl, ap, ◌∙◌, rules}
 use Rattle.json.specs.Value.{value_view}
 use Rattle.serde_json.specs.View.{view}
-use Rattle.symq_reader.specs.GraphText.{read_outcome_of_data}
+use Rattle.symq_reader.specs.GraphText.{read_outcome_of_json}
 use Rattle.symq_reader.specs.Numbers.{has_whole_numbers}
 use Rattle.symq_reader.proofs.Outcomes.{json_of_bytes-read, json_of_bytes-refused}
 use Rattle.symq_reader.proofs.Texts.{again_outcome, no_graph}
@@ -20,8 +20,8 @@ returns-then-not-has_whole_numbers c =
     let read = c.in-Ok.ensures.ok in
     let d = view c.in-Ok.read in
     let broken : has_whole_numbers d ≡ false = search rules in
-    ap read_outcome_of_data (json_of_bytes-read c.args.bytes.now d read.0 read.1) ∙ no_graph d broken
+    ap read_outcome_of_json (json_of_bytes-read c.args.bytes.now d read.0 read.1) ∙ no_graph d broken
 
 pub returns-in-Err-2 : goal.returns-in-Err-2
 returns-in-Err-2 c =
-    ap read_outcome_of_data (json_of_bytes-refused c.args.bytes.now (c.in-Err.ensures.err (λ memory. search (rules, c.if-is_memory.ensures.1 memory))))
+    ap read_outcome_of_json (json_of_bytes-refused c.args.bytes.now (c.in-Err.ensures.err (λ memory. search (rules, c.if-is_memory.ensures.1 memory))))

@@ -8,7 +8,7 @@ use Rattle.symbols_ast.specs.Graph.{ModuleView, module_view, redirect_view}
 use Rattle.symbols_graph.specs.PutModules.{IsFaultlessPut}
 use Rattle.symbols_graph.specs.inner.PutSteps.{IsRefusedPut}
 use Rattle.symbols_graph.specs.inner.Tables.{AreKeyedBySpecifier}
-use Rattle.symbols_graph.specs.Tables.{string_pairs_view}
+use Rattle.symbols_graph.specs.Tables.{string_pairs_bytes}
 use Rattle.symbols_graph.proofs.PutModules.{put_among, put_resolves}
 use Rattle.symbols_graph.proofs.graph.ModuleGraph.put_module.Goals as goal
 
@@ -54,5 +54,5 @@ pub returns-clause-resolutions : goal.returns-clause-resolutions
 returns-clause-resolutions c = λ r t.
     let named : string_bytes c.in_ok-referrer.referrer ≡ string_bytes c.args.raw.specifier = search rules in
     rw (← c.self.view_is) (put_resolves c.self.inside.resolutions c.insert.new.self c.in_ok-referrer.referrer c.in_ok-resolved.resolved
-    (string_pairs_view c.args.resolutions.items) (string_bytes c.args.raw.specifier) named c.in_ok-resolved.ensures c.self.invariant.1
+    (string_pairs_bytes c.args.resolutions.items) (string_bytes c.args.raw.specifier) named c.in_ok-resolved.ensures c.self.invariant.1
     c.in_ok-insert.ensures.unique c.in_ok-insert.ensures.updates r t)

@@ -1,6 +1,6 @@
 use Rattle.std.proofs.Common.{ap, ◌∙◌}
 use Rattle.symbols_paths.specs.PathTrees.{leaves_of_forest}
-use Rattle.symbols_paths.specs.Answers.{IsPathsFault}
+use Rattle.symbols_paths.specs.Answers.{IsFindDefinitionPathsFault}
 use Rattle.symbols_paths.specs.inner.PathBuilders.{built_paths}
 use Rattle.symbols_paths.proofs.Answering.{memory_refused}
 use Rattle.symbols_paths.proofs.Results.{on_memory}
@@ -16,7 +16,8 @@ returns-in_ok-ends_of_builders-in-Ok-clause-listed c = c.in_ok-ends_of_builders-
     ∙ ap leaves_of_forest c.in-Ok.ensures.listed
 
 pub returns-in_err-ends_of_builders-in-Ok-clause-faults : goal.returns-in_err-ends_of_builders-in-Ok-clause-faults
-returns-in_err-ends_of_builders-in-Ok-clause-faults c = on_memory (IsPathsFault c.args.self.now c.path_builders.new.root c.args.module_id c.args.symbol_id)
+returns-in_err-ends_of_builders-in-Ok-clause-faults c = on_memory
+    (IsFindDefinitionPathsFault c.args.self.now c.path_builders.new.root c.args.module_id c.args.symbol_id)
     c.from_residual.result c.from_residual.ensures.1 (memory_refused c.in-Ok.ensures.known)
 
 pub returns-in_ok-ends_of_builders-in-Ok-clause-stored : goal.returns-in_ok-ends_of_builders-in-Ok-clause-stored

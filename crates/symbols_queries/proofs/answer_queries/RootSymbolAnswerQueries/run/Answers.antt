@@ -16,7 +16,8 @@ loop-query-init c = answered_first c.args.self.now c.new-answers.result.items c.
 pub loop-query-preserved : goal.loop-query-preserved
 loop-query-preserved c = answered_on c.args.self.now c.loop-query.self c.answer.new.self c.loop-query.answers.items c.push.new.self.items c.in-Ok.given
     c.args.queries.now c.loop-query.query-index c.query-item.result c.loop-query.invariant (omega (arith, c.loop-query-test.true)) c.query-item.is
-    c.in-Ok.ensures.grown (record { answers = c.in-Ok.ensures.answers; means = c.in-Ok.ensures.means; stored = c.in-Ok.ensures.stored }) c.in-Ok.ensures.stores
+    c.in-Ok.ensures.grown (record { answers = c.in-Ok.ensures.answers; is_right_answer = c.in-Ok.ensures.means; stored = c.in-Ok.ensures.stored })
+    c.in-Ok.ensures.stores
     c.in_ok-push-in-Ok.ensures.items
 
 pub returns-in-Err-clause-grown : goal.returns-in-Err-clause-grown
@@ -34,7 +35,7 @@ pub returns-in_err-push-in-Ok-clause-faults : goal.returns-in_err-push-in-Ok-cla
 returns-in_err-push-in-Ok-clause-faults c = run_out_of_memory c.from_residual.result c.args.self.now c.loop-query.self c.answer.new.self
     c.loop-query.answers.items c.in-Ok.given c.args.queries.now c.loop-query.query-index c.query-item.result c.loop-query.invariant
     (omega (arith, c.loop-query-test.true)) c.query-item.is c.in-Ok.ensures.grown
-    (record { answers = c.in-Ok.ensures.answers; means = c.in-Ok.ensures.means; stored = c.in-Ok.ensures.stored }) c.in-Ok.ensures.stores
+    (record { answers = c.in-Ok.ensures.answers; is_right_answer = c.in-Ok.ensures.means; stored = c.in-Ok.ensures.stored }) c.in-Ok.ensures.stores
     c.from_residual.ensures.1
 
 pub returns-clause-grown : goal.returns-clause-grown
@@ -49,7 +50,7 @@ returns-clause-means c =
     let named_form = last_named c.args.self.now c.loop-query.self c.loop-query.answers.items c.args.queries.now c.loop-query.query-index c.loop-query.invariant
     (omega (arith, c.loop-query-test.false)) in
     zip_weaker (IsNamed c.args.self.now c.loop-query.self) (λ (query : Query) (given : Answer). IsAnswerToQuery c.args.self.now.rules c.args.self.now.graph
-    (query_view query) (answer_view given)) (λ query given is. is.means) c.args.queries.now c.loop-query.answers.items named_form
+    (query_view query) (answer_view given)) (λ query given is. is.is_right_answer) c.args.queries.now c.loop-query.answers.items named_form
 
 pub returns-clause-stored : goal.returns-clause-stored
 returns-clause-stored c =

@@ -13,12 +13,12 @@ use Rattle.symbols_table.specs.Analysis.{IsAnalysisResult}
 use Rattle.symbols_table.specs.declared.info.module_info.ModuleInfo.{ModuleInfo}
 use Rattle.symbols_root.specs.Specifiers.{module_with_specifier, contains_specifier}
 use Rattle.symbols_root.specs.declared.limits.Limits.{Limits}
-use Rattle.symbols_root.specs.Roots.{RootView, widest_limits, with_stored_module, IsNeededUnstored, IsStoringFault}
+use Rattle.symbols_root.specs.Roots.{RootView, widest_limits, with_stored_module, IsNeededAndNotStored, IsStoringFault}
 use Rattle.symbols_root.specs.StoredModules.{StoredModule, stored_specifiers}
 use Rattle.symbols_root.specs.inner.StoredModules.{ResolvesToItself}
 use Rattle.symbols_root.specs.Growing.{HasGrown}
 use Rattle.symbols_root.specs.laws.Growing.{has_grown_refl, has_grown_by_stored_module}
-use Rattle.symbols_root.specs.laws.Specifiers.{on_err, laws, index_among, same_bytes}
+use Rattle.symbols_root.specs.laws.Specifiers.{on_err, laws, contains_specifier_at_index, same_bytes}
 use Rattle.symbols_root.proofs.Storing.{stored_is, index_stored, length-stored, stored_push, insert_last, get_last, whole_push}
 use Rattle.symbols_root.proofs.Storing.{with_old, with_new, none_missing, refused_analysis, table_under, last_retained}
 use Rattle.symbols_root.proofs.Enough.{room_within}
@@ -43,7 +43,8 @@ returns-in-Some-get_index_of-clause-stored c =
     let q = c.args.graph_module.now.specifier in
     let at = index_stored c.self.inside.modules.entries c.specifier-specifier.result.now c.in-Some-get_index_of.index (sym c.get_index_of.ensures.index
     ∙ c.in-Some-get_index_of.is) in
-    let old = index_among (stored_specifiers c.self.inside.modules.entries) c.in-Some-get_index_of.index q (at ∙ ap Some c.specifier-specifier.ensures) in
+    let old = contains_specifier_at_index (stored_specifiers c.self.inside.modules.entries) c.in-Some-get_index_of.index q
+    (at ∙ ap Some c.specifier-specifier.ensures) in
     with_old c.args.self.now q (subst (λ (r : RootView). contains_specifier r.stored q ≡ true) c.self.view_is old)
 
 pub returns-in-Some-get_index_of-clause-allowed : goal.returns-in-Some-get_index_of-clause-allowed
@@ -51,7 +52,8 @@ returns-in-Some-get_index_of-clause-allowed c =
     let q = c.args.graph_module.now.specifier in
     let at = index_stored c.self.inside.modules.entries c.specifier-specifier.result.now c.in-Some-get_index_of.index (sym c.get_index_of.ensures.index
     ∙ c.in-Some-get_index_of.is) in
-    let old = index_among (stored_specifiers c.self.inside.modules.entries) c.in-Some-get_index_of.index q (at ∙ ap Some c.specifier-specifier.ensures) in
+    let old = contains_specifier_at_index (stored_specifiers c.self.inside.modules.entries) c.in-Some-get_index_of.index q
+    (at ∙ ap Some c.specifier-specifier.ensures) in
     λ s. none_missing c.args.self.now q s (subst (λ (r : RootView). contains_specifier r.stored q ≡ true) c.self.view_is old)
 
 -- ---- it is right after the module requested last
@@ -69,13 +71,13 @@ pub returns-then-eq-clause-stored : goal.returns-then-eq-clause-stored
 returns-then-eq-clause-stored c =
     let q = c.args.graph_module.now.specifier in
     let at = returns-then-eq-clause-gives c in
-    with_old c.args.self.now q (index_among c.args.self.now.stored (c.in-Some.last.0 + 1) q at)
+    with_old c.args.self.now q (contains_specifier_at_index c.args.self.now.stored (c.in-Some.last.0 + 1) q at)
 
 pub returns-then-eq-clause-allowed : goal.returns-then-eq-clause-allowed
 returns-then-eq-clause-allowed c =
     let q = c.args.graph_module.now.specifier in
     let at = returns-then-eq-clause-gives c in
-    λ s. none_missing c.args.self.now q s (index_among c.args.self.now.stored (c.in-Some.last.0 + 1) q at)
+    λ s. none_missing c.args.self.now q s (contains_specifier_at_index c.args.self.now.stored (c.in-Some.last.0 + 1) q at)
 
 pub returns-then-eq-clause-grown : goal.returns-then-eq-clause-grown
 returns-then-eq-clause-grown c = has_grown_refl c.args.self.now
@@ -90,7 +92,7 @@ returns-then-count-modules-clause-refused c =
     ∙ ap is_some c.in_default-get_index_of.is) c.specifier-specifier.ensures in
     let full : c.self.inside.limits.modules ≤ length (stored_specifiers entries) =
     omega (arith, length-stored entries, c.len-count.ensures.len, c.if-count-modules.true) in
-    subst (λ (r : RootView). (x : List ℕ) × IsNeededUnstored r (Some q) x × (r.limits.modules ≤ length r.stored)) c.self.view_is (q, (refl, new), full)
+    subst (λ (r : RootView). (x : List ℕ) × IsNeededAndNotStored r (Some q) x × (r.limits.modules ≤ length r.stored)) c.self.view_is (q, (refl, new), full)
 
 pub returns-in-Err-clause-refused : goal.returns-in-Err-clause-refused
 returns-in-Err-clause-refused c =

@@ -20,7 +20,7 @@ returns-in_err-builder-clause-too_many c = err_if c.from_residual.result c.in_er
 pub returns-in_err-declare_default-clause-too_many : goal.returns-in_err-declare_default-clause-too_many
 returns-in_err-declare_default-clause-too_many c =
     let text = c.args.text.now in
-    let occurs = ap (λ (r : SourceRange). declaration_of_kind (definition None) r) c.json_range-range.ensures in
+    let occurs = ap (λ (r : SourceRange). declaration_of_kind (definition None) r) c.trimmed_json_range-range.ensures in
     let first : decl_view c.without_node.result ≡ json_decl text = c.without_node.ensures ∙ occurs in
     let second : decl_view c.without_node-2.result ≡ json_decl text = c.without_node-2.ensures ∙ occurs in
     let begun = begun_with c.in_ok-builder.builder (decl_view c.without_node.result) (json_decl text) first c.in_ok-builder.ensures.table in
@@ -31,7 +31,7 @@ returns-in_err-declare_default-clause-too_many c =
 pub returns-clause-table : goal.returns-clause-table
 returns-clause-table c =
     let text = c.args.text.now in
-    let occurs = ap (λ (r : SourceRange). declaration_of_kind (definition None) r) c.json_range-range.ensures in
+    let occurs = ap (λ (r : SourceRange). declaration_of_kind (definition None) r) c.trimmed_json_range-range.ensures in
     let first : decl_view c.without_node.result ≡ json_decl text = c.without_node.ensures ∙ occurs in
     let second : decl_view c.without_node-2.result ≡ json_decl text = c.without_node-2.ensures ∙ occurs in
     let begun = begun_with c.in_ok-builder.builder (decl_view c.without_node.result) (json_decl text) first c.in_ok-builder.ensures.table in
@@ -55,7 +55,7 @@ returns-clause-table c =
 pub invariant_of-result : goal.invariant_of-result
 invariant_of-result c =
     let text = c.args.text.now in
-    let occurs = ap (λ (r : SourceRange). declaration_of_kind (definition None) r) c.json_range-range.ensures in
+    let occurs = ap (λ (r : SourceRange). declaration_of_kind (definition None) r) c.trimmed_json_range-range.ensures in
     let first : decl_view c.without_node.result ≡ json_decl text = c.without_node.ensures ∙ occurs in
     let second : decl_view c.without_node-2.result ≡ json_decl text = c.without_node-2.ensures ∙ occurs in
     let begun = begun_with c.in_ok-builder.builder (decl_view c.without_node.result) (json_decl text) first c.in_ok-builder.ensures.table in

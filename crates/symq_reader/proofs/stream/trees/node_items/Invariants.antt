@@ -1,6 +1,6 @@
 use Rattle.std.proofs.Common.{◌≡◌, length, map, true, Some}
 use Rattle.json.specs.Json as json
-use Rattle.symq_reader.specs.GraphText.{as_node, node_shape}
+use Rattle.symq_reader.specs.GraphText.{as_node, raw_node_view}
 use Rattle.symq_reader.specs.JsonData.{json_items_data}
 use Rattle.symq_reader.specs.inner.JsonData.{items_fit}
 use Rattle.symq_reader.specs.inner.Streams.{ConsumesItems}
@@ -12,7 +12,7 @@ abbrev pub invariant-items : goal.invariant-items
 invariant-items l =
     (done : json.Items) × ConsumesItems 122 l.initial.reader done l.reader
     × (items_fit done ≡ true)
-    × (read_each_item as_node (json_items_data done) ≡ Some (map node_shape l.found.items))
+    × (read_each_item as_node (json_items_data done) ≡ Some (map raw_node_view l.found.items))
 
 abbrev pub decreases-items : goal.decreases-items
 decreases-items l = length l.reader

@@ -10,7 +10,7 @@ use Rattle.symbols_table.specs.declared.builder.table.Setting.{Setting}
 use Rattle.symbols_table.specs.inner.NamespaceViews.{namespace_view}
 use Rattle.symbols_table.specs.DeclViews.{Declaration, decl_view}
 use Rattle.symbols_table.specs.DeclarationEvents.{is_exported, declare_and_add_events}
-use Rattle.symbols_table.specs.EventsByPosition.{events_of_each, child_ident_id}
+use Rattle.symbols_table.specs.EventsByHolderAndStart.{events_of_each, id_of_ident_child}
 use Rattle.symbols_table.specs.inner.Levels.{AreGreaterNodeNumbers}
 use Rattle.symbols_table.specs.Events.{effects_after_events, changes_of_effects}
 use Rattle.symbols_table.specs.TreeEvents.{namespace_name_part_events, namespace_body_events_of_kind, namespace_body_events_within, namespace_body_events}
@@ -59,7 +59,7 @@ walk_body-returns-in_default-namespace_id-clause-table t c = λ levels parts eno
     let is = c.kind.ensures ∙ ap (λ (k : Kind). Some k) kind in
     let block = item_list_events_within c.args.whole.tree.now levels in
     body_stays c.args.self.now c.args.holder block whole c.args.ambient parts c.args.n node (Kind.Decl (Decl.TsNamespaceDecl id rest)) found is deep
-    (λ left rows h before. on_none c.args.self.now rows (child_ident_id id_of node)
+    (λ left rows h before. on_none c.args.self.now rows (id_of_ident_child id_of node)
     (namespace_name_part_events whole node (namespace_body_events_within block whole c.args.ambient left rest)) h
     (length rows) (sym c.in_default-namespace_id.ensures) before)
 
@@ -79,7 +79,7 @@ walk_body-returns-in_err-symbol-in-Decl-TsNamespaceDecl-clause-table t c = λ le
     (λ left more rows h before at.
     let name = c.in-Some-namespace_id.id.now in
     let inner = namespace_body_events_within block whole c.args.ambient left rest in
-    on_reads c.from_residual.result limit c.declare_part.new.self rows (child_ident_id id_of node) name (namespace_name_part_events whole node inner) h
+    on_reads c.from_residual.result limit c.declare_part.new.self rows (id_of_ident_child id_of node) name (namespace_name_part_events whole node inner) h
     (length rows)
     (sym c.in-Some-namespace_id.ensures)
     (later_fault c.from_residual.result whole node name inner rows h limit c.declare_part.new.self c.in_err-symbol-in-Decl-TsNamespaceDecl.field-0.0
@@ -120,7 +120,8 @@ walk_body-returns-in_ok-symbol-in-Decl-TsNamespaceDecl-clause-table t c = λ lev
     (λ left more rows h before at.
     let name = c.in-Some-namespace_id.id.now in
     let inner = namespace_body_events_within block whole c.args.ambient left rest in
-    on_reads c.walk_body.result limit c.walk_body.new.self rows (child_ident_id id_of node) name (namespace_name_part_events whole node inner) h (length rows)
+    on_reads c.walk_body.result limit c.walk_body.new.self rows (id_of_ident_child id_of node) name (namespace_name_part_events whole node inner) h
+    (length rows)
     (sym c.in-Some-namespace_id.ensures)
     (later_read c.walk_body.result whole node name inner rows h c.in_ok-symbol-in-Decl-TsNamespaceDecl.symbol limit c.declare_part.new.self c.walk_body.new.self
     (ap (λ (s : Setting). s.limit) c.in_ok-symbol-in-Decl-TsNamespaceDecl.ensures.keeps.setting)
@@ -289,7 +290,7 @@ walk_namespace-returns-in_err-symbol-clause-table t c = λ levels enough rows h 
     let inner = namespace_inner block c.args.scope namespace kind in
     let test = is_exported c.args.scope namespace.exported in
     let decl : decl_view c.definition-definition.result ≡ namespace_decl namespace =
-    c.definition-definition.ensures ∙ (rw (c.declared_as-form.ensures, c.statement_range.ensures) refl) in
+    c.definition-definition.ensures ∙ (rw (c.declared_as-form.ensures, c.export_or_decl_range.ensures) refl) in
     let P : Declaration
     → Type 0 = λ d. AppliesEffects r limit c.declare.new.self (effects_after_events rows (declare_and_add_events test (id_view id) d inner h (length rows)))
     in
@@ -308,7 +309,7 @@ walk_namespace-returns-in_err-walk_inside-clause-table t c = λ levels enough ro
     let inner = namespace_inner block c.args.scope namespace kind in
     let test = is_exported c.args.scope namespace.exported in
     let decl : decl_view c.definition-definition.result ≡ namespace_decl namespace =
-    c.definition-definition.ensures ∙ (rw (c.declared_as-form.ensures, c.statement_range.ensures) refl) in
+    c.definition-definition.ensures ∙ (rw (c.declared_as-form.ensures, c.export_or_decl_range.ensures) refl) in
     let P : Declaration → Type 0 = λ d. AppliesEffects r limit c.walk_inside.new.self (effects_after_events rows
     (declare_and_add_events test (id_view id) d inner h (length rows))) in
     let read = rw c.inner_ambient.ensures at (c.in_err-walk_inside.ensures.table levels enough) in
@@ -328,7 +329,7 @@ walk_namespace-returns-clause-table t c = λ levels enough rows h is at.
     let inner = namespace_inner block c.args.scope namespace kind in
     let test = is_exported c.args.scope namespace.exported in
     let decl : decl_view c.definition-definition.result ≡ namespace_decl namespace =
-    c.definition-definition.ensures ∙ (rw (c.declared_as-form.ensures, c.statement_range.ensures) refl) in
+    c.definition-definition.ensures ∙ (rw (c.declared_as-form.ensures, c.export_or_decl_range.ensures) refl) in
     let P : Declaration → Type 0 = λ d. AppliesEffects r limit c.add_to_holder.new.self (effects_after_events rows
     (declare_and_add_events test (id_view id) d inner h (length rows))) in
     let read = rw c.inner_ambient.ensures at (c.in_ok-walk_inside.ensures.table levels enough) in

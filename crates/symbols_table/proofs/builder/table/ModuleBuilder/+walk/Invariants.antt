@@ -1,5 +1,5 @@
 use Rattle.std.proofs.Common.{ℕ, suc, ◌+◌, ◌-◌, ◌*◌, ◌≤◌, length, take}
-use Rattle.symbols_table.specs.EventsByPosition.{events_of_each}
+use Rattle.symbols_table.specs.EventsByHolderAndStart.{events_of_each}
 use Rattle.symbols_table.specs.TreeEvents.{item_events_within}
 use Rattle.symbols_table.proofs.Walks.{IsWalked}
 use Rattle.symbols_table.proofs.builder.table.ModuleBuilder.+walk.Given as goal

@@ -2,7 +2,7 @@ use Rattle.std.proofs.Common.{◌≡◌, Some, Bool, true, false, ◌∙◌, ◌
 use Rattle.std.specs.Prelude.{if◌then◌else◌}
 use Rattle.symbols_ast.specs.declared.ids.SymbolId.{SymbolId}
 use Rattle.symbols_table.specs.DeclViews.{decl_view, is_definition}
-use Rattle.symbols_table.specs.Changes.{Change, makes_symbol, adds_decl, exports, adds_child}
+use Rattle.symbols_table.specs.Changes.{Change, adds_symbol, adds_decl, exports, adds_child}
 use Rattle.symbols_table.specs.Events.{new_symbol_effect, default_export_name}
 use Rattle.symbols_table.specs.inner.Tables.{HasAppliedChanges}
 use Rattle.symbols_table.proofs.Rows.{new_reads, past_limit, err_reads}
@@ -14,7 +14,7 @@ more holder test s = exports holder default_export_name s ∷ (if test then adds
 pub returns-in_ok-add_child-clause-table : goal.returns-in_ok-add_child-clause-table
 returns-in_ok-add_child-clause-table c = λ changes is.
     let symbol = c.in_ok-symbol.symbol in
-    let before = (changes ++ makes_symbol (Some c.args.holder) ∷ []) ++ adds_decl symbol (decl_view c.args.decl) ∷ [] in
+    let before = (changes ++ adds_symbol (Some c.args.holder) ∷ []) ++ adds_decl symbol (decl_view c.args.decl) ∷ [] in
     let test : is_definition (decl_view c.args.decl).kind ≡ true = sym c.is_definition-is_definition.ensures ∙ c.if-is_definition.true in
     let both = c.in_ok-add_child.ensures.table _ (c.in_ok-add_export.ensures.table _ (c.in_ok-symbol.ensures.table changes is)) in
     rw test

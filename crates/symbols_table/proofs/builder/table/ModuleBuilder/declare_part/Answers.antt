@@ -4,7 +4,7 @@ use Rattle.symbols_ast.specs.NodeRefs.{node_view}
 use Rattle.symbols_nodes.specs.NodeViews.{ts_namespace}
 use Rattle.symbols_table.specs.DeclViews.{decl_view, definition_of_node}
 use Rattle.symbols_table.specs.Events.{changes_of_effects}
-use Rattle.symbols_table.specs.EventsByPosition.{range_or_empty}
+use Rattle.symbols_table.specs.EventsByHolderAndStart.{range_or_empty}
 use Rattle.symbols_table.proofs.ItemWalks.{part_read, part_fault}
 use Rattle.symbols_table.proofs.builder.table.ModuleBuilder.declare_part.Goals as goal
 

@@ -8,7 +8,7 @@ use Rattle.symbols_table.specs.Events.{declare_effect, effect_of_event, changes_
 use Rattle.symbols_table.specs.MemberEvents.{member_events_at, member_nodes}
 use Rattle.symbols_table.specs.DeclarationEvents.{child_and_export_events}
 use Rattle.symbols_table.specs.inner.Tables.{AppliesEffects, AppliesEventsUnderHolder}
-use Rattle.symbols_table.specs.EventsByPosition.{events_of_each}
+use Rattle.symbols_table.specs.EventsByHolderAndStart.{events_of_each}
 use Rattle.symbols_table.proofs.Walks.{reads_from, err_all}
 use Rattle.symbols_table.proofs.EventReads.{around_rows, inner_read, inner_fault, holder_after, symbol_after_changes}
 use Rattle.symbols_table.proofs.builder.table.ModuleBuilder.declare_with_members.Goals as goal

@@ -4,7 +4,7 @@ use Rattle.symbols_ast.specs.NodeRefs.{node_view}
 use Rattle.symbols_nodes.specs.NodeViews.{symbol_node_view}
 use Rattle.symbols_table.specs.DeclViews.{decl_view, definition_of_node}
 use Rattle.symbols_table.specs.Events.{member, member_effect, effect_of_event, changes_of_effects, symbol_of_event_at}
-use Rattle.symbols_table.specs.EventsByPosition.{range_or_empty}
+use Rattle.symbols_table.specs.EventsByHolderAndStart.{range_or_empty}
 use Rattle.symbols_table.proofs.Walks.{err_all}
 use Rattle.symbols_table.proofs.EventReads.{event_read, member_reads}
 use Rattle.symbols_table.proofs.builder.table.ModuleBuilder.define_member.Goals as goal

@@ -1,5 +1,5 @@
 use Rattle.std.proofs.Common.{ℕ, List, take, drop, suc, subst}
-use Rattle.symbols_table.specs.EventsByPosition.{events_of_each}
+use Rattle.symbols_table.specs.EventsByHolderAndStart.{events_of_each}
 use Rattle.symbols_table.specs.DeclarationEvents.{binding_events_at}
 use Rattle.symbols_table.specs.inner.VariablesViews.{variable_statement_view}
 use Rattle.symbols_ast.specs.NodeRefs.{node_view}

@@ -1,6 +1,6 @@
 use Rattle.std.proofs.Common.{take}
 use Rattle.symbols_ast.specs.NodeRefs.{node_view}
-use Rattle.symbols_table.specs.EventsByPosition.{events_of_each}
+use Rattle.symbols_table.specs.EventsByHolderAndStart.{events_of_each}
 use Rattle.symbols_table.specs.DeclarationEvents.{binding_events_at}
 use Rattle.symbols_table.specs.inner.VariablesViews.{variable_statement_view}
 use Rattle.symbols_table.proofs.Walks.{IsWalked}

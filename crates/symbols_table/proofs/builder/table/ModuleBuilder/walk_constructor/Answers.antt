@@ -7,7 +7,7 @@ use Rattle.symbols_table.specs.declared.builder.table.Setting.{Setting}
 use Rattle.symbols_table.specs.DeclViews.{decl_view, definition_of_node}
 use Rattle.symbols_table.specs.Events.{member, member_effect, effect_of_event, changes_of_effects, symbol_of_event_at}
 use Rattle.symbols_table.specs.MemberEvents.{constructor_param_events_at}
-use Rattle.symbols_table.specs.EventsByPosition.{events_of_each, range_or_empty}
+use Rattle.symbols_table.specs.EventsByHolderAndStart.{events_of_each, range_or_empty}
 use Rattle.symbols_table.proofs.Walks.{err_all}
 use Rattle.symbols_table.proofs.EventReads.{event_then, member_reads}
 use Rattle.symbols_table.proofs.builder.table.ModuleBuilder.walk_constructor.Goals as goal

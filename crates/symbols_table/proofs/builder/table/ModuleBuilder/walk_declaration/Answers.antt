@@ -1,7 +1,7 @@
 use Rattle.std.proofs.Common.{◌≡◌, [], length, rules}
 use Rattle.std.specs.Option.{option_map}
 use Rattle.symbols_ast.specs.NodeRefs.{node_view, kind_of}
-use Rattle.symbols_table.specs.EventsByPosition.{events_if_some}
+use Rattle.symbols_table.specs.EventsByHolderAndStart.{events_if_some}
 use Rattle.symbols_table.specs.DeclarationEvents.{declaration_events}
 use Rattle.symbols_table.proofs.Walks.{none_read}
 use Rattle.symbols_table.proofs.builder.table.ModuleBuilder.walk_declaration.Goals as goal

@@ -1,6 +1,6 @@
 use Rattle.std.proofs.Common.{length, rules}
 use Rattle.symbols_ast.specs.NodeRefs.{node_view, kind_of}
-use Rattle.symbols_table.specs.EventsByPosition.{events_if_some}
+use Rattle.symbols_table.specs.EventsByHolderAndStart.{events_if_some}
 use Rattle.symbols_table.specs.ModuleEvents.{export_assignment_events}
 use Rattle.symbols_table.proofs.ModuleBuilderSteps.{keeps_same}
 use Rattle.symbols_table.proofs.ModuleWalks.{no_events}

@@ -7,7 +7,7 @@ use Rattle.symbols_table.specs.Events.{default, default_export_effect, effect_of
 use Rattle.symbols_table.specs.MemberEvents.{member_events_at}
 use Rattle.symbols_table.specs.ModuleEvents.{bind_events_if}
 use Rattle.symbols_table.specs.inner.Tables.{AppliesEffects}
-use Rattle.symbols_table.specs.EventsByPosition.{events_of_each}
+use Rattle.symbols_table.specs.EventsByHolderAndStart.{events_of_each}
 use Rattle.symbols_table.proofs.Rows.{symbol_of_event_at-push, symbol_at_after}
 use Rattle.symbols_table.proofs.Walks.{one_read, reads_from}
 use Rattle.symbols_table.proofs.ModuleWalks.{err_as, default_decl_as, default_decl_rows}

@@ -1,7 +1,7 @@
 use Rattle.std.proofs.Common.{◌≡◌, Some, [], length, sym, ◌∙◌, rules}
 use Rattle.std.specs.Option.{option_copied}
 use Rattle.symbols_ast.specs.NodeRefs.{TreeNode, node_view, kind_of, node_in}
-use Rattle.symbols_table.specs.EventsByPosition.{events_if_some}
+use Rattle.symbols_table.specs.EventsByHolderAndStart.{events_if_some}
 use Rattle.symbols_table.specs.ModuleEvents.{export_specifier_events}
 use Rattle.symbols_table.proofs.ModuleBuilderSteps.{keeps_same}
 use Rattle.symbols_table.proofs.Walks.{on_none}

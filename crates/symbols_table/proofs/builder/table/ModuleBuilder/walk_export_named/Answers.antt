@@ -1,6 +1,6 @@
 use Rattle.std.proofs.Common.{ℕ, List, take, drop, suc, subst}
 use Rattle.std.specs.Option.{option_copied}
-use Rattle.symbols_table.specs.EventsByPosition.{events_of_each}
+use Rattle.symbols_table.specs.EventsByHolderAndStart.{events_of_each}
 use Rattle.symbols_table.specs.ModuleEvents.{export_specifier_events_at}
 use Rattle.symbols_table.specs.inner.Tables.{AppliesEventsUnderHolder}
 use Rattle.symbols_table.proofs.Walks.{take_item, split_item, each_none, each_next, each_fault}

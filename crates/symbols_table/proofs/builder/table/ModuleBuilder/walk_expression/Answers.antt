@@ -4,7 +4,7 @@ use Rattle.symbols_ast.specs.Ids.{id_view, ident_id}
 use Rattle.symbols_ast.specs.NodeRefs.{node_view, kind_of}
 use Rattle.symbols_nodes.specs.Expando.{Expando, expando_of_assignment}
 use Rattle.symbols_table.specs.DeclViews.{decl_view}
-use Rattle.symbols_table.specs.Changes.{mapped_symbol_after}
+use Rattle.symbols_table.specs.Changes.{symbol_of_ident_after_changes}
 use Rattle.symbols_table.specs.Events.{expando, expando_effect, changes_of_effects}
 use Rattle.symbols_table.proofs.ModuleWalks.{no_events, on_nothing, only_read, nothing_found, same_found, expando_sym, expando_one}
 use Rattle.symbols_table.proofs.builder.table.ModuleBuilder.walk_expression.Goals as goal
@@ -33,6 +33,6 @@ returns-clause-table c = λ rows h is at.
     let same = same_found (expando_of_assignment node) (node_view c.in-Some.expando.inner) node c.in-Some.ensures in
     let is_named = expando_sym node (node_view c.in-Some.expando.inner) (node_view c.obj_ident.result) same c.obj_ident.ensures ∙ sym c.in-Some-sym.ensures in
     only_read c.declare_expando.result _ _ rows _ (expando (id_view id) decl)
-    (expando_effect (changes_of_effects rows) (mapped_symbol_after (changes_of_effects rows) (id_view id)) decl)
+    (expando_effect (changes_of_effects rows) (symbol_of_ident_after_changes (changes_of_effects rows) (id_view id)) decl)
     (expando_one node (node_view c.in-Some.expando.inner) id c.range.result decl h (length rows) is_named same c.range.ensures c.definition.ensures) refl
     (c.declare_expando.ensures.table (changes_of_effects rows) is)

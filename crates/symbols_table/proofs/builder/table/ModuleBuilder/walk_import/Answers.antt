@@ -1,5 +1,5 @@
 use Rattle.std.proofs.Common.{ℕ, List, take, drop, suc, subst}
-use Rattle.symbols_table.specs.EventsByPosition.{events_of_each}
+use Rattle.symbols_table.specs.EventsByHolderAndStart.{events_of_each}
 use Rattle.symbols_table.specs.ModuleEvents.{import_specifier_events_at}
 use Rattle.symbols_table.specs.inner.Tables.{AppliesEventsUnderHolder}
 use Rattle.symbols_table.proofs.Walks.{take_item, split_item, each_none, each_next, each_fault}

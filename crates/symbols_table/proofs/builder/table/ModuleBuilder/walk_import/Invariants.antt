@@ -1,5 +1,5 @@
 use Rattle.std.proofs.Common.{take}
-use Rattle.symbols_table.specs.EventsByPosition.{events_of_each}
+use Rattle.symbols_table.specs.EventsByHolderAndStart.{events_of_each}
 use Rattle.symbols_table.specs.ModuleEvents.{import_specifier_events_at}
 use Rattle.symbols_table.proofs.Walks.{IsWalked}
 use Rattle.symbols_table.proofs.builder.table.ModuleBuilder.walk_import.Given as goal

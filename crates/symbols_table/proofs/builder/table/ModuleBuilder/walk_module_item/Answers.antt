@@ -1,10 +1,10 @@
 use Rattle.std.proofs.Common.{◌≡◌, [], ◌∷◌, length, refl, ◌∙◌, rules}
 use Rattle.std.specs.Prelude.{string_bytes}
 use Rattle.symbols_ast.specs.NodeRefs.{node_view, kind_of}
-use Rattle.symbols_table.specs.Changes.{Star, re_exports_all}
+use Rattle.symbols_table.specs.Changes.{ExportStarStatement, re_exports_all}
 use Rattle.symbols_table.specs.Events.{effect_of_changes, star, changes_of_effects}
 use Rattle.symbols_table.specs.ModuleEvents.{import_export_or_expando_events}
-use Rattle.symbols_table.specs.EventsByPosition.{events_if_some}
+use Rattle.symbols_table.specs.EventsByHolderAndStart.{events_if_some}
 use Rattle.symbols_table.proofs.ModuleBuilderSteps.{keeps_same}
 use Rattle.symbols_table.proofs.ModuleWalks.{no_events, on_thing, on_ok, only_memory, not_item}
 use Rattle.symbols_table.proofs.builder.table.ModuleBuilder.walk_module_item.Goals as goal
@@ -22,7 +22,7 @@ pub returns-in-ExportAll-clause-table : goal.returns-in-ExportAll-clause-table
 returns-in-ExportAll-clause-table c = λ rows h is at.
     let node = node_view c.args.node in
     let text : c.as_str-in-ExportAll.result.now ≡ string_bytes c.in-ExportAll.src = c.as_str-in-ExportAll.ensures.value in
-    let statement : Star = record { number = c.node_id.result; specifier_text = string_bytes c.in-ExportAll.src } in
+    let statement : ExportStarStatement = record { number = c.node_id.result; specifier_text = string_bytes c.in-ExportAll.src } in
     let events : events_if_some (kind_of node) (import_export_or_expando_events node) h (length rows) ≡ star statement ∷ [] =
     rw (c.kind.ensures, c.in-Item.is, c.in-ExportAll.is, c.node_id.ensures) refl in
     only_memory c.add_star.result _ _ rows _ (star statement) (effect_of_changes (re_exports_all statement ∷ [])) events refl

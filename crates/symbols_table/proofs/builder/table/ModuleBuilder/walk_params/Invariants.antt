@@ -1,5 +1,5 @@
 use Rattle.std.proofs.Common.{take}
-use Rattle.symbols_table.specs.EventsByPosition.{events_of_each}
+use Rattle.symbols_table.specs.EventsByHolderAndStart.{events_of_each}
 use Rattle.symbols_table.specs.MemberEvents.{constructor_param_events_at}
 use Rattle.symbols_table.proofs.Walks.{IsWalked}
 use Rattle.symbols_table.proofs.builder.table.ModuleBuilder.walk_params.Given as goal
