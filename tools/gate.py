@@ -9,7 +9,8 @@ the crate are proved, over copies of their builds: those that are due, as `wrong
 commits. Beside them the model of `evidence/` is compared with its sources, and the static library is built and called
 from other languages. The checks that need the proved programs come last: random graphs, the command over directories,
 calls that fail in turn, long chains, and the cases. At the end each part has a line with its time on the clock and of the
-processors. The lines of the failures are repeated; the last line is 'N passed, M failed'.
+processors. The first lines of each part's failures are repeated, those of the proofs last, since what fails there makes other
+parts fail; the last line is 'N passed, M failed'.
 """
 import os
 import re
@@ -28,6 +29,8 @@ from wrong.crates import TOP, Crate, libraries_below, libraries_of
 HERE = os.path.dirname(os.path.abspath(__file__))
 
 PRINTING = threading.Lock()
+# how many lines of a part that failed are repeated at the end
+SHOWN = 12
 
 
 class Proofs:
@@ -84,7 +87,7 @@ class Part:
                 print(''.join(lines), end='', flush=True)
         self.clock, self.processors = (time.time() - began) / 60, (used.ru_utime + used.ru_stime) / 60
         self.count(lines[-1] if lines else '', started.returncode)
-        self.told = [it for it in lines if 'FAILED' in it] or lines[-20:]
+        self.told = [it for it in lines if 'FAILED' in it or 'NOT PROVED' in it] or lines[-SHOWN:]
         return self
 
     def count(self, last, status):
@@ -203,9 +206,10 @@ def main():
     for part in parts:
         word = ', FAILED' if part.failed else ''
         print('%s: %.1f minutes, %.1f of the processors%s' % (part.name, part.clock, part.processors, word))
-    for part in parts:
+    for part in reversed(parts):
         if part.failed:
-            print('%s: what failed, again:\n%s' % (part.name, ''.join(part.told)), end='')
+            more = '... and %d lines more\n' % (len(part.told) - SHOWN) if len(part.told) > SHOWN else ''
+            print('%s: what failed, again:\n%s%s' % (part.name, ''.join(part.told[:SHOWN]), more), end='')
     took = (time.time() - began) / 60, sum(it.processors for it in parts)
     print('all: %.1f minutes, %.1f of the processors' % took)
     failed = sum(it.failed for it in parts)
