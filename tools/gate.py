@@ -44,7 +44,7 @@ class Proofs:
         found = re.fullmatch(r'rt: (\w+) (?:proved|is kept: .*)\s*', line)
         if found:
             built = os.path.join(TOP, 'crates', found[1], 'out', 'rlib', found[1] + '.rlib')
-            if os.path.isdir(built):
+            if os.path.isdir(built) and found[1] not in self.proved:
                 shutil.copytree(built, os.path.join(self.folder, os.path.basename(built)))
             with self.changed:
                 self.proved.add(found[1])
@@ -98,15 +98,28 @@ class Part:
             self.failed = self.failed or int(status != 0 or not (self.passed or self.may_be_empty))
 
 
+def free_here():
+    """Returns how much memory and disk is free, as text."""
+    with open('/proc/meminfo', encoding='utf-8') as f:
+        memory = int(re.search(r'^MemAvailable:\s+(\d+)', f.read(), re.M)[1]) / 1e6
+    disk = min(shutil.disk_usage(it).free for it in (TOP, tempfile.gettempdir())) / 1e9
+    return '%.1f GB of memory and %.1f of disk are free' % (memory, disk)
+
+
 def tool(name, *words):
     return [sys.executable, os.path.join(HERE, name), *words]
 
 
 def proofs_part(proofs):
-    """Proves everything from nothing, and stores the program for `make symq`."""
+    """Proves everything from nothing, and stores the program for `make symq`. Another run of `rt ci` follows if a crate wasn't proved, which is
+    proved again then and nothing else: a proof may end for lack of memory beside the other parts."""
     part, made_from = Part('proofs, tests in Rust and programs (rt ci)'), sum_of('symq')
     try:
         part.run(['rt', 'ci'], proofs.read)
+        if any('NOT PROVED' in it for it in part.told):
+            print('proofs, again: %s' % free_here(), flush=True)
+            first, part = part, Part(part.name).run(['rt', 'ci'], proofs.read)
+            part.clock, part.processors = part.clock + first.clock, part.processors + first.processors
     finally:
         proofs.end()
     if not part.failed:
@@ -202,7 +215,8 @@ def all_parts():
 
 
 def main():
-    began, parts = time.time(), all_parts()
+    began, free = time.time(), free_here()
+    parts = all_parts()
     for part in parts:
         word = ', FAILED' if part.failed else ''
         print('%s: %.1f minutes, %.1f of the processors%s' % (part.name, part.clock, part.processors, word))
@@ -211,7 +225,7 @@ def main():
             more = '... and %d lines more\n' % (len(part.told) - SHOWN) if len(part.told) > SHOWN else ''
             print('%s: what failed, again:\n%s%s' % (part.name, ''.join(part.told[:SHOWN]), more), end='')
     took = (time.time() - began) / 60, sum(it.processors for it in parts)
-    print('all: %.1f minutes, %.1f of the processors' % took)
+    print('all: %.1f minutes, %.1f of the processors; at the beginning %s, now %s' % (*took, free, free_here()))
     failed = sum(it.failed for it in parts)
     print('%d passed, %d failed' % (sum(it.passed for it in parts), failed))
     return 1 if failed else 0
