@@ -37,7 +37,7 @@ OF_TABLES = ('tests_of_declarations', 'json_objects', 'no_modules', 'refused_sha
 LISTS = tuple(b'["%s"' % it for it in (b'exports', b'names', b'deps', b'paths', b'definitions', b'leaves', b'resolve'))
 ALL_FORMS, FEW_LINES, SMALL = 'each_form_of_query', 'line_that_is_not_utf8', 'one_variable'
 # the program that calls the library; its steps in which an allocation may fail, and the one that stores modules; the one that allocates nothing
-CALLS, STEPS, STORING, VIEWS = 'refused_calls', ('read_graph', 'ModuleGraph::new', 'run', 'run once more'), 'run', 'views'
+CALLS, STEPS, STORING, VIEWS = 'refused_calls', ('read_graph', 'ModuleGraph::new', 'run', 'run once more', 'inputs'), 'run', 'views'
 NO_GRAPH, NO_JSON = Outcome(3, b'', b'symq: cannot read graph\n'), Outcome(4, b'', b'symq: not a graph: json\n')
 NO_INPUT, NO_OUTPUT, NO_MEMORY = b'symq: input failed\n', b'symq: output failed\n', b'symq: out of memory\n'
 

@@ -2,7 +2,7 @@
 
 pub use symbols_queries::{
     Answer, AnswerQueries, DeclDeps, DefinitionBySpecifier, DepEntryBySpecifier, ExportBySpecifier,
-    ExporterBySpecifier, ExportsBySpecifier, Found, InputsOf, PathBySpecifier, PathEndBySpecifier,
+    ExporterBySpecifier, ExportsBySpecifier, Found, PathBySpecifier, PathEndBySpecifier,
     PathLinkBySpecifier, Query, QueryInput, SharedNameBySpecifier, StarStatementBySpecifier,
     UnresolvedBySpecifier,
 };

@@ -15,7 +15,7 @@ pub(crate) trait Lines {
 }
 
 /// Prints a line, and after it the lines of each item.
-fn print_each<R: Print, T: Lines>(rt: &R, line: &str, items: &[T]) -> io::Result<()> {
+pub(crate) fn print_each<R: Print, T: Lines>(rt: &R, line: &str, items: &[T]) -> io::Result<()> {
     println!(rt; "{line}")?;
     for item in items {
         item.print_lines(rt)?;
@@ -162,7 +162,6 @@ impl Lines for Answer<'_> {
             Answer::Definitions(definitions) => print_each(rt, "    definitions", definitions),
             Answer::Leaves(ends) => print_each(rt, "    leaves", ends),
             Answer::Resolve(entries) => print_each(rt, "    entries", entries),
-            Answer::Inputs(inputs) => print_each(rt, "    inputs", inputs),
         }
     }
 }

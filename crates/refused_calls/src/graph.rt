@@ -73,8 +73,8 @@ fn reference(alloc: Global) -> Result<SymbolNodeDep<'static>, AllocError> {
 }
 
 /// The modules of the queries, in their order. The first specifier resolves to no module.
-const QUERIED: [&str; 12] = [
-    "absent", "a", "a", "b", "a", "b", "q", "q", "q", "q", "q", "q",
+const QUERIED: [&str; 11] = [
+    "absent", "a", "a", "b", "a", "b", "q", "q", "q", "q", "q",
 ];
 
 /// Returns the name `x` of scope 1.
@@ -101,7 +101,6 @@ fn query(alloc: Global, index: usize, module: &'static str) -> Result<Query<'sta
         8 => Query::Definitions(module, first),
         9 => Query::Leaves(module, second),
         10 => Query::Resolve(module, reference(alloc)?),
-        11 => Query::Paths(module, first).inputs(),
         _ => Query::Module(module),
     })
 }

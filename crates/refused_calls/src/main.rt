@@ -8,7 +8,7 @@ mod graph;
 mod tables;
 mod views;
 
-use crate::answers::Lines;
+use crate::answers::{Lines, print_each};
 use crate::graph::{GRAPH, queries};
 use crate::tables::print_stored;
 use crate::views::print_views;
@@ -68,7 +68,19 @@ fn run_query<R: Print>(rt: &R, root: &mut RootSymbol<'_>, queries: &[Query<'_>])
     Ok(print_stored(rt, root)?)
 }
 
-/// Prints the answers to the queries, twice, and then what is borrowed.
+/// Prints the inputs of a query, and the modules that are stored then.
+fn print_inputs<R: Print>(rt: &R, root: &mut RootSymbol<'_>, query: &Query<'_>) -> Result<()> {
+    match root.inputs(query) {
+        Err(SymbolsFault::OutOfMemory) => println!(rt; "  out of memory")?,
+        inputs => {
+            let inputs = printed(rt, "  answers", inputs)??;
+            print_each(rt, "    inputs", &inputs)?;
+        }
+    }
+    Ok(print_stored(rt, root)?)
+}
+
+/// Prints the answers to the queries, twice, the inputs of the last, and then what is borrowed.
 fn print_queried<'a, R: Print>(
     rt: &R,
     graph: &'a ModuleGraph,
@@ -79,6 +91,10 @@ fn print_queried<'a, R: Print>(
     run_query(rt, root, queries)?;
     println!(rt; "run once more")?;
     run_query(rt, root, queries)?;
+    if let Some(last) = queries.last() {
+        println!(rt; "inputs")?;
+        print_inputs(rt, root, last)?;
+    }
     print_views(rt, graph, root)
 }
 

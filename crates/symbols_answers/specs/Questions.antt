@@ -31,19 +31,6 @@ pub record QueryView : Type 0 where
   pub question : QuestionView
   pub form : QueryForm
 
--- a question that has the same inputs: its own if it is on the module, its exports, the paths of a symbol, or a reference
-abbrev pub question_with_same_inputs : QuestionView → QuestionView
-question_with_same_inputs query_module = query_module
-question_with_same_inputs query_exports = query_exports
-question_with_same_inputs query_names = query_exports
-question_with_same_inputs (query_symbol name) = query_module
-question_with_same_inputs (query_name s) = query_module
-question_with_same_inputs (query_deps s mode) = query_module
-question_with_same_inputs (query_paths s) = query_paths s
-question_with_same_inputs (query_definitions s) = query_paths s
-question_with_same_inputs (query_leaves s) = query_paths s
-question_with_same_inputs (query_resolve reference) = query_resolve reference
-
 -- the query for the inputs of a query
 abbrev pub inputs_query : QueryView → QueryView
-inputs_query query = record { specifier = query.specifier; question = question_with_same_inputs query.question; form = for_inputs }
+inputs_query query = record { specifier = query.specifier; question = query.question; form = for_inputs }

@@ -1,19 +1,20 @@
 -- The inputs of a query, by the contracts of the calls.
-use Rattle.std.proofs.Common.{◌≡◌, ℕ, zero, suc, ◌≤◌, inr, ◌^◌, List, [], ◌∷◌, length, map, Some, refl, sym, ap, subst, ◌∙◌, arith}
-use Rattle.std.specs.Prelude.{Contains}
-use Rattle.std.specs.Borrow.{Bor}
+use Rattle.std.proofs.Common.{◌≡◌, ℕ, zero, suc, ◌≤◌, inr, ◌^◌, List, [], ◌∷◌, length, map, Option, Some, option_map, refl, sym, ap, subst, ◌∙◌, arith}
+use Rattle.std.specs.Prelude.{Contains, Result, Ok, Err, IfOk, OnOk, Vec}
+use Rattle.std.specs.Global.{Global}
 use Rattle.std.specs.List.{IsDistinct}
 use Rattle.std.specs.Str.{bytes_eq}
 use Rattle.std.proofs.lemmas.List.{length-map, get_or-map}
 use Rattle.std.proofs.lemmas.Option.{none-some}
+use Rattle.symbols_ast.specs.declared.ids.ModuleId.{ModuleId}
 use Rattle.symbols_ast.specs.Graph.{GraphView}
 use Rattle.symbols_table.specs.declared.info.fault.SymbolsFault.{SymbolsFault}
 use Rattle.symbols_root.specs.Growing.{HasGrown}
-use Rattle.symbols_root.specs.Roots.{RootView, with_stored_module}
+use Rattle.symbols_root.specs.Roots.{RootView, with_stored_module, maybe_specifier}
 use Rattle.symbols_root.specs.TypesChains.{resolved_module_specifier}
 use Rattle.symbols_paths.specs.NeededModules.{IsFaultOfStoringOneOf, AreNewlyStoredAmong}
 use Rattle.symbols_paths.specs.laws.Storing.{newly_stored_among_more, newly_stored_by_two_calls}
-use Rattle.symbols_answers.specs.Questions.{for_answer, QueryView}
+use Rattle.symbols_answers.specs.Questions.{QueryView, inputs_query}
 use Rattle.symbols_answers.specs.Answers.{answer_inputs}
 use Rattle.symbols_answers.specs.Inputs.{InputView, input_of}
 use Rattle.symbols_answers.specs.InputLists.{seen_specifiers, inputs_of_query}
@@ -21,9 +22,8 @@ use Rattle.symbols_answers.specs.Meanings.{IsAnswerOfInputs}
 use Rattle.symbols_answers.specs.QueryReach.{IsSpecifierLookedUpByQuery}
 use Rattle.symbols_answers.specs.Stored.{AreRequestedModulesStored}
 use Rattle.symbols_answers.specs.laws.SeenLists.{list_seen, seen_listed, seen_distinct}
-use Rattle.symbols_queries.specs.declared.query.InputsOf.{InputsOf}
-use Rattle.symbols_queries.specs.declared.query.Query.{Query}
-use Rattle.symbols_queries.specs.Queries.{query_of_inputs, query_view}
+use Rattle.symbols_queries.specs.declared.inputs.QueryInput.{QueryInput}
+use Rattle.symbols_queries.specs.AnswerViews.{input_view, inputs_view}
 use Rattle.symbols_queries.specs.QueryFaults.{IsNeededForInputs, CanBeStoredByQuery, IsQueryFault}
 use Rattle.symbols_queries.specs.inner.Given.{IsQueryAnswerReturned}
 
@@ -76,12 +76,22 @@ module _ (graph : GraphView) (query : QueryView) where
 
 -- ---- a call for the inputs
 
-module _ (old mid new : RootView) (specifier : List ℕ) (inputs_of : InputsOf) (grown : HasGrown old mid)
+module _ (old mid new : RootView) (queried : QueryView) (specifier : List ℕ) (same : specifier ≡ queried.specifier) (grown : HasGrown old mid)
     (stored : mid ≡ with_stored_module old (resolved_module_specifier old.graph specifier)) where
   abbrev query : QueryView
-  query = query_of_inputs specifier inputs_of
+  query = inputs_query queried
 
-  pub inputs_given : (inputs : List InputView) → length (seen_specifiers mid.graph query) ≤ 2 ^ 63 → inputs ≡ inputs_of_query mid.graph query
+  stored_for_query : mid ≡ with_stored_module old (resolved_module_specifier old.graph query.specifier)
+  stored_for_query = subst (λ (text : List ℕ). mid ≡ with_stored_module old (resolved_module_specifier old.graph text)) same stored
+
+  -- the number of the module that the specifier resolves to
+  pub resolved_in : (found : Option ModuleId)
+      → option_map (maybe_specifier mid) found ≡ option_map (λ (s : List ℕ). Some s) (resolved_module_specifier old.graph specifier)
+      → option_map (maybe_specifier mid) found ≡ option_map (λ (s : List ℕ). Some s) (resolved_module_specifier mid.graph queried.specifier)
+  resolved_in found gives =
+      gives ∙ (λ i. option_map (λ (s : List ℕ). Some s) (resolved_module_specifier (sym grown.graph i) (same i)))
+
+  inputs_given : (inputs : List InputView) → length (seen_specifiers mid.graph query) ≤ 2 ^ 63 → inputs ≡ inputs_of_query mid.graph query
       → AreRequestedModulesStored new query → IsQueryAnswerReturned old new query (answer_inputs inputs)
   inputs_given inputs few listed modules = record {
     answers = ap (λ (list : List InputView). Some (answer_inputs list)) (sym (subst (λ (g : GraphView). inputs ≡ inputs_of_query g query) grown.graph listed));
@@ -92,12 +102,19 @@ module _ (old mid new : RootView) (specifier : List ℕ) (inputs_of : InputsOf) 
   needed_before : (v : List ℕ) → IsNeededForInputs mid.graph query v → IsNeededForInputs old.graph query v
   needed_before v needed = subst (λ (g : GraphView). IsNeededForInputs g query v) grown.graph needed
 
+  pub inputs_returned : (result : Result (Vec QueryInput Global) SymbolsFault)
+      → IfOk result (λ inputs. map input_view inputs.items ≡ inputs_of_query mid.graph queried)
+      → OnOk result (length (seen_specifiers mid.graph queried) ≤ 2 ^ 63) → OnOk result (AreRequestedModulesStored new queried)
+      → IfOk result (λ inputs. IsQueryAnswerReturned old new query (inputs_view inputs))
+  inputs_returned (Ok inputs) listed few modules = inputs_given (map input_view inputs.items) few listed modules
+  inputs_returned (Err f) listed few modules = tt
+
   pub inputs_refused : (f : SymbolsFault) → HasGrown mid new → AreNewlyStoredAmong mid new (IsNeededForInputs mid.graph query)
       → IsFaultOfStoringOneOf new (IsNeededForInputs mid.graph query) f → IsQueryFault old new query f
   inputs_refused f further only refused = inr (inr (record {
     has_answer = λ none. none-some (answer_inputs (inputs_of_query old.graph query)) (sym none);
-    stored = subst (λ (root : RootView). HasGrown root new) stored further;
-    are_newly_stored_for_queries = subst (λ (root : RootView). AreNewlyStoredAmong root new (IsNeededForInputs old.graph query)) stored
+    stored = subst (λ (root : RootView). HasGrown root new) stored_for_query further;
+    are_newly_stored_for_queries = subst (λ (root : RootView). AreNewlyStoredAmong root new (IsNeededForInputs old.graph query)) stored_for_query
         (newly_stored_among_more only needed_before);
     needed = refused.needed;
     is_needed = λ v e. needed_before v (refused.is_needed v e);
@@ -108,20 +125,3 @@ module _ (old mid new : RootView) (specifier : List ℕ) (inputs_of : InputsOf) 
       (IsNeededForInputs mid.graph query)
       → AreNewlyStoredAmong old new (CanBeStoredByQuery old.rules old.graph query)
   stores_for_inputs first then = newly_stored_by_two_calls first then (λ v needed. inr (needed_before v needed))
-
--- ---- queries for answers
-
--- each query but that for inputs is for an answer
-pub other_form : (query : Query) → ((specifier : Bor (List ℕ)) (inputs_of : InputsOf) → query ≡ Query.Inputs specifier inputs_of → ⊥)
-    → (query_view query).form ≡ for_answer
-other_form (Query.Module specifier) no_inputs = refl
-other_form (Query.Exports specifier) no_inputs = refl
-other_form (Query.Names specifier) no_inputs = refl
-other_form (Query.Symbol specifier name) no_inputs = refl
-other_form (Query.Name specifier symbol) no_inputs = refl
-other_form (Query.Deps specifier symbol mode) no_inputs = refl
-other_form (Query.Paths specifier symbol) no_inputs = refl
-other_form (Query.Definitions specifier symbol) no_inputs = refl
-other_form (Query.Leaves specifier symbol) no_inputs = refl
-other_form (Query.Resolve specifier dep) no_inputs = refl
-other_form (Query.Inputs specifier inputs_of) no_inputs = absurd (no_inputs specifier inputs_of refl)

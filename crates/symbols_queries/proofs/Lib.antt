@@ -10,7 +10,6 @@ mod TypesWalks
 mod InputItems
 mod Requesting
 mod Running
-mod SameInputs
 mod InputsAnswered
 mod PathModules
 mod StoredForQuery

@@ -42,14 +42,32 @@ use Rattle.symbols_paths.specs.NeededModules.{IsModuleNeededBySearch, IsNeededBy
 use Rattle.symbols_paths.specs.PathTrees.{PathForest}
 use Rattle.symbols_paths.specs.Views.{symbol_by_specifier}
 use Rattle.symbols_answers.specs.Questions.{QuestionView, query_module, query_exports, query_names, query_symbol, query_name, query_deps, query_resolve}
+use Rattle.symbols_answers.specs.Questions.{for_answer, QueryView}
 use Rattle.symbols_answers.specs.Answers.{AnswerView, answer_module, answer_exports, answer_names, answer_symbol, answer_name, answer_deps, answer_resolve}
 use Rattle.symbols_answers.specs.QueryAnswers.{some_if_strict, definition_paths_from, dependencies_answer, some_answer_if_symbol_exists, question_answer}
 use Rattle.symbols_answers.specs.Meanings.{IsAnswerOfPaths, IsAnswerToQuestion}
 use Rattle.symbols_answers.specs.Stored.{modules_of_answer, IsExportsOrPublicNamesQuestion, AreAnswerModulesStored}
+use Rattle.symbols_queries.specs.declared.query.Query.{Query}
+use Rattle.symbols_queries.specs.Queries.{query_view}
 use Rattle.symbols_queries.specs.inner.Given.{IsQuestionAnswerReturned}
 use Rattle.symbols_queries.specs.QueryFaults.{IsOtherModuleNeededByQuestion}
 use Rattle.symbols_queries.specs.inner.QueryFaults.{IsOtherModuleForQuestionRefused, IsQuestionFault}
 use Rattle.symbols_queries.proofs.Storing.{number_stored, still_there, reached_stored, reached_there, exports_there}
+
+-- ---- the form of a query
+
+-- a query of the library is for an answer
+pub form_is : (query : Query) → (query_view query).form ≡ for_answer
+form_is (Query.Module specifier) = refl
+form_is (Query.Exports specifier) = refl
+form_is (Query.Names specifier) = refl
+form_is (Query.Symbol specifier name) = refl
+form_is (Query.Name specifier symbol) = refl
+form_is (Query.Deps specifier symbol mode) = refl
+form_is (Query.Paths specifier symbol) = refl
+form_is (Query.Definitions specifier symbol) = refl
+form_is (Query.Leaves specifier symbol) = refl
+form_is (Query.Resolve specifier dep) = refl
 
 -- ---- a symbol of a stored module
 

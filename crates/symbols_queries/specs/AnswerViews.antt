@@ -124,4 +124,7 @@ answer_view (Answer.Paths paths) = answer_paths (path_forest_view paths.items)
 answer_view (Answer.Definitions definitions) = answer_definitions (map definition_by_specifier_view definitions.items)
 answer_view (Answer.Leaves leaves) = answer_leaves (map path_end_view leaves.items)
 answer_view (Answer.Resolve entries) = answer_resolve (map dep_entry_view entries.items)
-answer_view (Answer.Inputs inputs) = answer_inputs (map input_view inputs.items)
+
+-- the inputs of a query, as the answer to the query for them
+abbrev pub inputs_view : Vec QueryInput Global → AnswerView
+inputs_view inputs = answer_inputs (map input_view inputs.items)

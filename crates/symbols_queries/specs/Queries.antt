@@ -3,22 +3,11 @@ use Rattle.std.specs.Prelude.{List, ℕ}
 use Rattle.symbols_ast.specs.Ids.{id_view}
 use Rattle.symbols_nodes.specs.References.{reference_view}
 use Rattle.symbols_answers.specs.Questions.{QuestionView, query_module, query_exports, query_names, query_symbol, query_name}
-use Rattle.symbols_answers.specs.Questions.{query_deps, query_paths, query_definitions, query_leaves, query_resolve, for_answer, for_inputs, QueryView}
-use Rattle.symbols_queries.specs.declared.query.InputsOf.{InputsOf}
+use Rattle.symbols_answers.specs.Questions.{query_deps, query_paths, query_definitions, query_leaves, query_resolve, for_answer, QueryView}
 use Rattle.symbols_queries.specs.declared.query.Query.{Query}
 
 abbrev pub query_with_question : List ℕ → QuestionView → QueryView
 query_with_question specifier question = record { specifier = specifier; question = question; form = for_answer }
-
--- the question whose inputs are queried
-abbrev pub question_of_inputs : InputsOf → QuestionView
-question_of_inputs InputsOf.Module = query_module
-question_of_inputs InputsOf.Exports = query_exports
-question_of_inputs (InputsOf.Paths symbol) = query_paths symbol
-question_of_inputs (InputsOf.Resolve dep) = query_resolve (reference_view dep)
-
-abbrev pub query_of_inputs : List ℕ → InputsOf → QueryView
-query_of_inputs specifier inputs_of = record { specifier = specifier; question = question_of_inputs inputs_of; form = for_inputs }
 
 abbrev pub query_view : Query → QueryView
 query_view (Query.Module specifier) = query_with_question specifier.now query_module
@@ -31,4 +20,3 @@ query_view (Query.Paths specifier symbol) = query_with_question specifier.now (q
 query_view (Query.Definitions specifier symbol) = query_with_question specifier.now (query_definitions symbol)
 query_view (Query.Leaves specifier symbol) = query_with_question specifier.now (query_leaves symbol)
 query_view (Query.Resolve specifier dep) = query_with_question specifier.now (query_resolve (reference_view dep))
-query_view (Query.Inputs specifier inputs_of) = query_of_inputs specifier.now inputs_of

@@ -2,7 +2,6 @@
 
 use crate::decl_deps::DeclDeps;
 use crate::exports_by_specifier::ExportsBySpecifier;
-use crate::inputs::QueryInput;
 use crate::paths_by_specifier::{
     DefinitionBySpecifier, DepEntryBySpecifier, PathBySpecifier, PathEndBySpecifier,
 };
@@ -35,6 +34,4 @@ pub enum Answer<'a> {
     Leaves(Vec<PathEndBySpecifier<'a>>),
     /// The entries that the reference resolves to.
     Resolve(Vec<DepEntryBySpecifier<'a>>),
-    /// The specifiers that the answer to a query rests on. The queried one is first.
-    Inputs(Vec<QueryInput<'a>>),
 }

@@ -14,15 +14,13 @@ ghost use Rattle.symbols_paths.specs.NeededModules.{AreNewlyStoredAmong};
 ghost use Rattle.symbols_answers.specs.Questions.{query_exports, query_names, query_name};
 ghost use Rattle.symbols_answers.specs.Questions.{query_deps};
 ghost use Rattle.symbols_answers.specs.Questions.{query_paths, query_definitions, query_leaves};
-ghost use Rattle.symbols_answers.specs.Questions.{query_resolve, for_answer};
+ghost use Rattle.symbols_answers.specs.Questions.{query_resolve, inputs_query};
 ghost use Rattle.symbols_answers.specs.QueryAnswers.{query_answer};
 ghost use Rattle.symbols_answers.specs.Meanings.{IsAnswerToQuery};
 ghost use Rattle.symbols_answers.specs.Stored.{AreQueryModulesStored};
-ghost use Rattle.symbols_queries.specs.Queries.{query_view, query_of_inputs};
-ghost use Rattle.symbols_queries.specs.AnswerViews.{answer_view};
+ghost use Rattle.symbols_queries.specs.Queries.{query_view};
+ghost use Rattle.symbols_queries.specs.AnswerViews.{answer_view, inputs_view};
 ghost use Rattle.symbols_queries.specs.inner.Given.{IsQuestionAnswerReturned};
-ghost use Rattle.symbols_queries.specs.inner.Given.{IsQueryAnswerReturned};
-ghost use Rattle.symbols_queries.specs.inner.SpecifierLists.{KeepsForInputs};
 ghost use Rattle.symbols_queries.specs.QueryFaults.{IsQueryFault, IsQueryListFault};
 ghost use Rattle.symbols_queries.specs.QueryFaults.{IsOtherModuleNeededByQuestion, CanBeStoredByQuery};
 ghost use Rattle.symbols_queries.specs.QueryFaults.{CanBeStoredByQueries};
@@ -31,11 +29,11 @@ ghost use Rattle.symbols_queries.specs.inner.QueryFaults.{IsQuestionFault, IsQue
 use crate::answer::Answer;
 use crate::decl_deps::symbol_deps;
 use crate::exports_by_specifier::exports_by_specifier;
-use crate::inputs::inputs;
+use crate::inputs::{QueryInput, inputs};
 use crate::paths_by_specifier::{
     definitions_by_specifier, entries_by_specifier, path_ends_by_specifier, paths_by_specifier,
 };
-use crate::query::{InputsOf, Query};
+use crate::query::Query;
 use symbols_deps::laws::dependencies_are_listed;
 use symbols_exports::laws::exports_are_listed;
 use symbols_exports::{exports, public_names};
@@ -214,32 +212,6 @@ fn entries_answer<'a>(
     }
 }
 
-/// Answers with the inputs of a query on the module that a specifier resolves to.
-fn inputs_answer<'a>(
-    root: &mut RootSymbol<'a>,
-    queried: &str,
-    inputs_of: &InputsOf<'_>,
-) -> Result<Answer<'a>, SymbolsFault>
-    ensures grown { HasGrown root.old root.new }
-    ensures given { IfOk result (λ answer. IsQueryAnswerReturned root.old root.new
-        (query_of_inputs queried.now inputs_of.now) (answer_view answer)) }
-    ensures faults { IfErr result
-        (IsQueryFault root.old root.new (query_of_inputs queried.now inputs_of.now)) }
-    ensures stores { AreNewlyStoredAmong root.old root.new (CanBeStoredByQuery root.old.rules root.old.graph
-        (query_of_inputs queried.now inputs_of.now)) }
-    ensures enough { root.old.limits ≡ widest_limits
-        → IfErr result (λ fault. (fault ≡ OutOfMemory) ⊎ (fault ≡ UnknownSymbol)) }
-{
-    let module_id = match root.module_from_specifier(queried) {
-        Err(fault) => return Err(fault),
-        Ok(module_id) => module_id,
-    };
-    match inputs(root, module_id, queried, inputs_of) {
-        Err(fault) => Err(fault),
-        Ok(listed) => Ok(Answer::Inputs(listed)),
-    }
-}
-
 /// Returns the answer to the question of a query, on the stored module that its specifier resolves
 /// to.
 fn answer_on<'a>(
@@ -247,8 +219,7 @@ fn answer_on<'a>(
     module_id: ModuleId,
     query: &Query<'_>,
 ) -> Result<Answer<'a>, SymbolsFault>
-    requires known { IsStored root.old module_id }
-    requires form { (query_view query.now).form ≡ for_answer }
+    requires { IsStored root.old module_id }
     ensures keeps { IsQuestionOutcome root.old root.new
         (IsQuestionFault root.old root.new (specifier_in root.old module_id)
         (query_view query.now).question) result }
@@ -268,33 +239,11 @@ fn answer_on<'a>(
         Query::Definitions(_, symbol) => definitions_answer(root, module_id, *symbol),
         Query::Leaves(_, symbol) => leaves_answer(root, module_id, *symbol),
         Query::Resolve(_, dep) => entries_answer(root, module_id, dep),
-        Query::Inputs(_, _) => unreachable!(),
     }
 }
 
-/// Returns the answer to the question of a query.
-fn question_answer<'a>(
-    root: &mut RootSymbol<'a>,
-    query: &Query<'_>,
-) -> Result<Answer<'a>, SymbolsFault>
-    requires { (query_view query.now).form ≡ for_answer }
-    ensures grown { HasGrown root.old root.new }
-    ensures given { IfOk result (λ answer. IsQueryAnswerReturned root.old root.new
-        (query_view query.now) (answer_view answer)) }
-    ensures faults { IfErr result (IsQueryFault root.old root.new (query_view query.now)) }
-    ensures stores { AreNewlyStoredAmong root.old root.new
-        (CanBeStoredByQuery root.old.rules root.old.graph (query_view query.now)) }
-    ensures enough { root.old.limits ≡ widest_limits
-        → IfErr result (λ fault. (fault ≡ OutOfMemory) ⊎ (fault ≡ UnknownSymbol)) }
-{
-    match root.module_from_specifier(query.specifier()) {
-        Err(fault) => Err(fault),
-        Ok(None) => Ok(Answer::NoModule),
-        Ok(Some(module_id)) => answer_on(root, module_id, query),
-    }
-}
-
-/// The calls of a root that answer queries on modules: one query, or several (extension).
+/// The calls of a root that answer queries on modules: one query, or several; and the inputs of one
+/// (extension).
 pub trait AnswerQueries<'a> {
     /// Returns the answer to a query (extension). It doesn't depend on earlier calls.
     ///
@@ -318,6 +267,17 @@ pub trait AnswerQueries<'a> {
     /// or name stay stored. For exports and public names those that `export *` reaches stay stored,
     /// too. Modules that were stored before stay stored. Nothing is stored for a later query.
     fn run(&mut self, queries: &[Query<'_>]) -> Result<Vec<Answer<'a>>, SymbolsFault>;
+
+    /// Returns the inputs of a query: the specifiers that its answer rests on, the queried one first
+    /// (extension). They don't depend on earlier calls.
+    ///
+    /// # Errors
+    ///
+    /// `OutOfMemory`, or the limit that a module breaks: the queried module, or one that a specifier
+    /// resolves to which the query requests. If the queried module is refused, nothing changes.
+    /// Modules that were stored stay stored. No other module is stored than those that requested
+    /// specifiers resolve to.
+    fn inputs(&mut self, query: &Query<'_>) -> Result<Vec<QueryInput<'a>>, SymbolsFault>;
 }
 
 impl<'a> AnswerQueries<'a> for RootSymbol<'a> {
@@ -338,9 +298,10 @@ impl<'a> AnswerQueries<'a> for RootSymbol<'a> {
             → IfErr result (λ fault. (fault ≡ OutOfMemory) ⊎ (fault ≡ UnknownSymbol)) }
     {
         exports_are_listed(self);
-        match query {
-            Query::Inputs(queried, inputs_of) => inputs_answer(self, queried, inputs_of),
-            _ => question_answer(self, query),
+        match self.module_from_specifier(query.specifier()) {
+            Err(fault) => Err(fault),
+            Ok(None) => Ok(Answer::NoModule),
+            Ok(Some(module_id)) => answer_on(self, module_id, query),
         }
     }
 
@@ -372,5 +333,26 @@ impl<'a> AnswerQueries<'a> for RootSymbol<'a> {
             }
         }
         Ok(answers)
+    }
+
+    fn inputs(&mut self, query: &Query<'_>) -> Result<Vec<QueryInput<'a>>, SymbolsFault>
+        ensures grown { HasGrown self.old self.new }
+        ensures answers { IfOk result (λ inputs. query_answer self.old.rules self.old.graph
+            (inputs_query (query_view query.now)) ≡ Some (inputs_view inputs)) }
+        ensures means { IfOk result (λ inputs. IsAnswerToQuery self.old.rules self.old.graph
+            (inputs_query (query_view query.now)) (inputs_view inputs)) }
+        ensures stored { IfOk result (λ inputs. AreQueryModulesStored self.new
+            (inputs_query (query_view query.now)) (inputs_view inputs)) }
+        ensures faults { IfErr result
+            (IsQueryFault self.old self.new (inputs_query (query_view query.now))) }
+        ensures stores { AreNewlyStoredAmong self.old self.new
+            (CanBeStoredByQuery self.old.rules self.old.graph (inputs_query (query_view query.now))) }
+        ensures enough { self.old.limits ≡ widest_limits → IfErr result (λ fault. fault ≡ OutOfMemory) }
+    {
+        let resolved = self.module_from_specifier(query.specifier());
+        match resolved {
+            Err(fault) => Err(fault),
+            Ok(module_id) => inputs(self, module_id, query),
+        }
     }
 }

@@ -7,7 +7,6 @@ ghost use Rattle.symbols_table.specs.Symbols.{symbol_decls};
 ghost use Rattle.symbols_root.specs.Calls.{IsStored};
 ghost use Rattle.symbols_root.specs.Roots.{maybe_specifier, specifier_in};
 ghost use Rattle.symbols_root.specs.TypesChains.{resolved_module_specifier};
-ghost use Rattle.symbols_answers.specs.Questions.{QueryView};
 ghost use Rattle.symbols_answers.specs.InputLists.{with_targets, walk_from, walk_limit};
 ghost use Rattle.symbols_answers.specs.InputLists.{import_specifiers_among, followed_specifiers};
 ghost use Rattle.symbols_answers.specs.InputLists.{resolved_import_type, with_import_type};
@@ -17,11 +16,11 @@ ghost use Rattle.symbols_answers.specs.InputLists.{inputs_of_query};
 ghost use Rattle.symbols_answers.specs.Inputs.{found_under, input_of};
 ghost use Rattle.symbols_answers.specs.Stored.{AreRequestedModulesStored};
 ghost use Rattle.symbols_ast.specs.Graph.{module_after_redirect};
-ghost use Rattle.symbols_queries.specs.Queries.{question_of_inputs, query_of_inputs};
+ghost use Rattle.symbols_queries.specs.Queries.{query_view};
 ghost use Rattle.symbols_queries.specs.AnswerViews.{found_view, input_view};
 ghost use Rattle.symbols_queries.specs.inner.SpecifierLists.{KeepsForInputs};
 
-use crate::query::InputsOf;
+use crate::query::Query;
 use crate::specifier_list::SpecifierList;
 use std::alloc::{AllocError, Global};
 use std::borrow::CowStr;
@@ -125,23 +124,26 @@ fn add_import_targets<'a>(
 fn add_followed_targets<'a>(
     root: &RootSymbol<'a>,
     module_id: ModuleId,
-    inputs_of: &InputsOf<'_>,
+    query: &Query<'_>,
     list: &mut SpecifierList<'_, 'a>,
 ) -> Result<(), AllocError>
     requires { IsStored root.now module_id }
     ensures { OnOk result (list.new
         ≡ with_targets root.now.graph (specifier_in root.now module_id) list.old
-        (followed_specifiers root.now.graph (question_of_inputs inputs_of.now)
+        (followed_specifiers root.now.graph (query_view query.now).question
         (specifier_in root.now module_id))) }
 {
     let graph = root.graph();
     let Some(info) = root.module_from_id(module_id) else {
         unreachable!()
     };
-    match inputs_of {
-        InputsOf::Module => Ok(()),
-        InputsOf::Exports => add_star_targets(graph, info, list),
-        InputsOf::Paths(_) | InputsOf::Resolve(_) => {
+    match query {
+        Query::Module(_) | Query::Symbol(_, _) | Query::Name(_, _) | Query::Deps(_, _, _) => Ok(()),
+        Query::Exports(_) | Query::Names(_) => add_star_targets(graph, info, list),
+        Query::Paths(_, _)
+        | Query::Definitions(_, _)
+        | Query::Leaves(_, _)
+        | Query::Resolve(_, _) => {
             add_star_targets(graph, info, list)?;
             add_import_targets(graph, info, list)
         }
@@ -152,27 +154,27 @@ fn add_followed_targets<'a>(
 fn add_requests<'a>(
     root: &RootSymbol<'a>,
     module_id: Option<ModuleId>,
-    inputs_of: &InputsOf<'_>,
+    query: &Query<'_>,
     list: &mut SpecifierList<'_, 'a>,
 ) -> Result<(), AllocError>
     requires { IfSome module_id (IsStored root.now) }
     ensures { (key : List ℕ) → option_map (maybe_specifier root.now) module_id
         ≡ option_map (λ s. Some s) (resolved_module_specifier root.now.graph key)
         → OnOk result (list.new ≡ with_requests root.now.graph
-        (question_of_inputs inputs_of.now) key list.old) }
+        (query_view query.now).question key list.old) }
 {
     match module_id {
-        Some(module_id) => add_followed_targets(root, module_id, inputs_of, list),
+        Some(module_id) => add_followed_targets(root, module_id, query, list),
         None => Ok(()),
     }
 }
 
-/// Returns the specifier of the import type whose inputs are queried.
-fn import_type_specifier<'r>(inputs_of: &'r InputsOf<'_>) -> Option<&'r str>
-    ensures { option_copied result ≡ resolved_import_type (question_of_inputs inputs_of.now) }
+/// Returns the specifier of the import type that a query resolves, if it is on one.
+fn import_type_specifier<'r>(query: &'r Query<'_>) -> Option<&'r str>
+    ensures { option_copied result ≡ resolved_import_type (query_view query.now).question }
 {
-    match inputs_of {
-        InputsOf::Resolve(SymbolNodeDep::ImportType(specifier_text, _)) => Some(specifier_text),
+    match query {
+        Query::Resolve(_, SymbolNodeDep::ImportType(specifier_text, _)) => Some(specifier_text),
         _ => None,
     }
 }
@@ -181,19 +183,19 @@ fn import_type_specifier<'r>(inputs_of: &'r InputsOf<'_>) -> Option<&'r str>
 fn add_import_type_target<'a>(
     root: &RootSymbol<'a>,
     module_id: Option<ModuleId>,
-    inputs_of: &InputsOf<'_>,
+    query: &Query<'_>,
     list: &mut SpecifierList<'_, 'a>,
 ) -> Result<(), AllocError>
-    requires { IfSome module_id (IsStored root.now) }
-    ensures { (query : QueryView) → query.question ≡ question_of_inputs inputs_of.now
-        → option_map (maybe_specifier root.now) module_id
-        ≡ option_map (λ s. Some s) (resolved_module_specifier root.now.graph query.specifier)
-        → OnOk result (list.new ≡ with_import_type root.now.graph query list.old) }
+    requires known { IfSome module_id (IsStored root.now) }
+    requires queried { option_map (maybe_specifier root.now) module_id
+        ≡ option_map (λ s. Some s)
+        (resolved_module_specifier root.now.graph (query_view query.now).specifier) }
+    ensures { OnOk result (list.new ≡ with_import_type root.now.graph (query_view query.now) list.old) }
 {
     let Some(module_id) = module_id else {
         return Ok(());
     };
-    match import_type_specifier(inputs_of) {
+    match import_type_specifier(query) {
         Some(specifier_text) => add_target(
             root.graph(),
             root.specifier_from_id(module_id),
@@ -209,27 +211,26 @@ fn add_import_type_target<'a>(
 fn requested_specifiers<'q, 'a>(
     root: &mut RootSymbol<'a>,
     module_id: Option<ModuleId>,
-    queried: &'q str,
-    inputs_of: &InputsOf<'_>,
+    query: &'q Query<'_>,
 ) -> Result<SpecifierList<'q, 'a>, SymbolsFault>
     requires { option_map (maybe_specifier root.old) module_id
-        ≡ option_map (λ s. Some s) (resolved_module_specifier root.old.graph queried.now) }
-    ensures keeps { KeepsForInputs root.old root.new (query_of_inputs queried.now inputs_of.now)
+        ≡ option_map (λ s. Some s) (resolved_module_specifier root.old.graph (query_view query.now).specifier) }
+    ensures keeps { KeepsForInputs root.old root.new (query_view query.now)
         result }
     ensures listed { IfOk result (λ list. list ≡ requested_specifiers root.old.graph
-        (query_of_inputs queried.now inputs_of.now)) }
+        (query_view query.now)) }
     ensures stored { OnOk result (AreRequestedModulesStored root.new
-        (query_of_inputs queried.now inputs_of.now)) }
+        (query_view query.now)) }
 {
-    let mut list = SpecifierList::new(root.alloc(), root.keys(), queried);
-    add_import_type_target(root, module_id, inputs_of, &mut list)?;
+    let mut list = SpecifierList::new(root.alloc(), root.keys(), query.specifier());
+    add_import_type_target(root, module_id, query, &mut list)?;
     let mut index = 0;
     while let Some(specifier) = list.get(index) {
         let requested = match root.module_from_specifier(specifier) {
             Err(fault) => return Err(fault),
             Ok(requested) => requested,
         };
-        add_requests(root, requested, inputs_of, &mut list)?;
+        add_requests(root, requested, query, &mut list)?;
         index += 1;
     }
     Ok(list)
@@ -314,21 +315,20 @@ fn inputs_from_requested<'a>(
 pub(crate) fn inputs<'a>(
     root: &mut RootSymbol<'a>,
     module_id: Option<ModuleId>,
-    queried: &str,
-    inputs_of: &InputsOf<'_>,
+    query: &Query<'_>,
 ) -> Result<Vec<QueryInput<'a>>, SymbolsFault>
     requires { option_map (maybe_specifier root.old) module_id
-        ≡ option_map (λ s. Some s) (resolved_module_specifier root.old.graph queried.now) }
-    ensures keeps { KeepsForInputs root.old root.new (query_of_inputs queried.now inputs_of.now)
+        ≡ option_map (λ s. Some s) (resolved_module_specifier root.old.graph (query_view query.now).specifier) }
+    ensures keeps { KeepsForInputs root.old root.new (query_view query.now)
         result }
     ensures listed { IfOk result (λ inputs. map input_view inputs.items ≡ inputs_of_query
-        root.old.graph (query_of_inputs queried.now inputs_of.now)) }
+        root.old.graph (query_view query.now)) }
     ensures few { OnOk result (length (seen_specifiers root.old.graph
-        (query_of_inputs queried.now inputs_of.now)) ≤ 2 ^ 63) }
+        (query_view query.now)) ≤ 2 ^ 63) }
     ensures stored { OnOk result (AreRequestedModulesStored root.new
-        (query_of_inputs queried.now inputs_of.now)) }
+        (query_view query.now)) }
 {
-    match requested_specifiers(root, module_id, queried, inputs_of) {
+    match requested_specifiers(root, module_id, query) {
         Err(fault) => Err(fault),
         Ok(requested) => Ok(inputs_from_requested(root.alloc(), root.graph(), requested)?),
     }

@@ -20,5 +20,5 @@ pub use paths_by_specifier::{
     DefinitionBySpecifier, DepEntryBySpecifier, PathBySpecifier, PathEndBySpecifier,
     PathLinkBySpecifier, UnresolvedBySpecifier,
 };
-pub use query::{InputsOf, Query};
+pub use query::Query;
 pub use shared_name_by_specifier::{ExporterBySpecifier, SharedNameBySpecifier};

@@ -1,9 +1,6 @@
 //! The queries on a module.
 
-ghost use Rattle.std.specs.Prelude.{◌≡◌, ◌↔◌, ℕ, List};
-ghost use Rattle.symbols_ast.specs.Graph.{GraphView};
-ghost use Rattle.symbols_answers.specs.Questions.{inputs_query};
-ghost use Rattle.symbols_answers.specs.QueryReach.{IsSpecifierLookedUpByQuery};
+ghost use Rattle.std.specs.Prelude.{◌≡◌};
 ghost use Rattle.symbols_queries.specs.Queries.{query_view};
 
 use symbols_graph::ids::SymbolId;
@@ -36,50 +33,9 @@ pub enum Query<'r> {
     /// The entries that a reference in it resolves to. The query borrows the names of the
     /// reference.
     Resolve(&'r str, SymbolNodeDep<'r>),
-    /// The inputs of a query: the specifiers that its answer rests on. `Query::inputs` makes it.
-    Inputs(&'r str, InputsOf<'r>),
 }
 
-/// The queries on a module that have inputs of their own (extension). The inputs of any query are
-/// those of one of these.
-#[derive(Drop)]
-pub enum InputsOf<'r> {
-    /// The module itself; and its names, symbols and their dependencies.
-    Module,
-    /// Its exports; and its public names.
-    Exports,
-    /// The definition paths of a symbol of it; and their ends.
-    Paths(SymbolId),
-    /// The entries that a reference in it resolves to.
-    Resolve(SymbolNodeDep<'r>),
-}
-
-impl<'r> Query<'r> {
-    /// Returns the query for the inputs of a query. The inputs of inputs are these themselves.
-    pub fn inputs(self) -> Query<'r>
-        ensures view { query_view result ≡ inputs_query (query_view self.entry) }
-        ensures same { (graph : GraphView) (key : List ℕ)
-            → IsSpecifierLookedUpByQuery graph (query_view result) key
-            ↔ IsSpecifierLookedUpByQuery graph (query_view self.entry) key }
-    {
-        match self {
-            Query::Module(specifier)
-            | Query::Symbol(specifier, _)
-            | Query::Name(specifier, _)
-            | Query::Deps(specifier, _, _) => Query::Inputs(specifier, InputsOf::Module),
-            Query::Exports(specifier) | Query::Names(specifier) => {
-                Query::Inputs(specifier, InputsOf::Exports)
-            }
-            Query::Paths(specifier, symbol) => Query::Inputs(specifier, InputsOf::Paths(symbol)),
-            Query::Definitions(specifier, symbol) => {
-                Query::Inputs(specifier, InputsOf::Paths(symbol))
-            }
-            Query::Leaves(specifier, symbol) => Query::Inputs(specifier, InputsOf::Paths(symbol)),
-            Query::Resolve(specifier, dep) => Query::Inputs(specifier, InputsOf::Resolve(dep)),
-            Query::Inputs(specifier, inputs_of) => Query::Inputs(specifier, inputs_of),
-        }
-    }
-
+impl Query<'_> {
     /// Returns the specifier of the queried module.
     pub fn specifier(&self) -> &str
         ensures { result.now ≡ (query_view self.now).specifier }
@@ -94,8 +50,7 @@ impl<'r> Query<'r> {
             | Query::Paths(specifier, _)
             | Query::Definitions(specifier, _)
             | Query::Leaves(specifier, _)
-            | Query::Resolve(specifier, _)
-            | Query::Inputs(specifier, _) => specifier,
+            | Query::Resolve(specifier, _) => specifier,
         }
     }
 }

@@ -1,5 +1,5 @@
-//! Tests every query by one call, in order, in reverse and repeated, answers with two items, and
-//! the state after a fault.
+//! Tests every query by one call, in order, in reverse and repeated, answers with two items, the
+//! inputs of a query, and the state after a fault.
 
 use crate::lifetimes::{of_limited, of_root};
 use deno_symbols::deps::{ResolveDepsMode, SymbolNodeDep};
@@ -37,7 +37,7 @@ fn first() -> SymbolId {
 }
 
 /// The form of each query, and its module.
-const FORMS: [(&str, &str); 12] = [
+const FORMS: [(&str, &str); 11] = [
     ("a module", "b"),
     ("exports", "a"),
     ("a symbol", "b"),
@@ -49,7 +49,6 @@ const FORMS: [(&str, &str); 12] = [
     ("a reference", "a"),
     ("public names", "a"),
     ("no module", "absent"),
-    ("inputs", "a"),
 ];
 
 /// Returns the reference `import("b").n`.
@@ -75,7 +74,6 @@ fn query(
         7 => Query::Leaves(specifier, first()),
         8 => Query::Resolve(specifier, reference(alloc)?),
         9 => Query::Names(specifier),
-        11 => Query::Exports(specifier).inputs(),
         _ => Query::Module(specifier),
     })
 }
@@ -103,7 +101,6 @@ fn index_of(answer: &Answer<'_>) -> usize {
         Answer::Resolve(_) => 8,
         Answer::Names(_) => 9,
         Answer::NoModule => 10,
-        Answer::Inputs(_) => 11,
     }
 }
 
@@ -121,11 +118,6 @@ fn exports_n(named: &ExportsBySpecifier<'_>) -> bool {
         && export.symbol == first()
         && statement.referrer == "a"
         && statement.specifier == "b"
-}
-
-/// Returns whether an input is a module of this specifier.
-fn is_module(input: &QueryInput<'_>, specifier: &str) -> bool {
-    input.specifier.as_str() == specifier && matches!(input.found, Found::Module)
 }
 
 /// Returns whether an answer has the expected contents for `n` and its module.
@@ -159,10 +151,6 @@ fn returns_of_n(answer: &Answer<'_>) -> bool {
             _ => false,
         },
         Answer::NoModule => true,
-        Answer::Inputs(inputs) => match inputs.as_slice() {
-            [a, b] => is_module(a, "a") && is_module(b, "b"),
-            _ => false,
-        },
     }
 }
 
@@ -242,6 +230,31 @@ fn each_again(root: &mut RootSymbol<'_>) -> Checked {
 #[test]
 fn answers_each_form_in_any_order(rt: HostRuntime) -> Checked {
     of_root(rt.alloc(), GRAPH, each_again)
+}
+
+/// Returns whether an input is a module of this specifier.
+fn is_module(input: &QueryInput<'_>, specifier: &str) -> bool {
+    input.specifier.as_str() == specifier && matches!(input.found, Found::Module)
+}
+
+/// Checks that the exports of `a` rest on both modules, and that these are stored then.
+fn returns_inputs(root: &mut RootSymbol<'_>) -> Checked {
+    let Ok(inputs) = root.inputs(&Query::Exports("a")) else {
+        return Err("no inputs");
+    };
+    let [first, second] = inputs.as_slice() else {
+        return Err("how many inputs there are");
+    };
+    holds!(is_module(first, "a"), "the first input");
+    holds!(is_module(second, "b"), "the second input");
+    holds!(root.has_analyzed("a"), "a is stored");
+    holds!(root.has_analyzed("b"), "b is stored");
+    Ok(())
+}
+
+#[test]
+fn returns_the_inputs_of_exports(rt: HostRuntime) -> Checked {
+    of_root(rt.alloc(), GRAPH, returns_inputs)
 }
 
 /// The module `m` of the text `export var n: T, n: U, o;`.

@@ -6,17 +6,18 @@ ghost use Rattle.symbols_root.specs.Growing.{HasGrown};
 ghost use Rattle.symbols_root.specs.Roots.{widest_limits};
 ghost use Rattle.symbols_answers.specs.Answers.{answer_symbol, answer_name};
 ghost use Rattle.symbols_answers.specs.QueryAnswers.{query_answer};
+ghost use Rattle.symbols_answers.specs.Questions.{inputs_query};
 ghost use Rattle.symbols_queries.specs.AnswerViews.{answer_view};
 ghost use Rattle.symbols_queries.specs.Queries.{query_view};
 ghost use Rattle.symq_reader.specs.GraphText.{json_of_bytes};
 ghost use Rattle.symq_reader.specs.JsonData.{value_data};
-ghost use Rattle.symq_core.specs.Queries.{query_of_json};
+ghost use Rattle.symq_core.specs.Queries.{query_of_json, inputs_query_of_data};
 ghost use Rattle.symq_core.specs.AnswerData.{answer_json, answer_or_fault_json, query_result_json};
 ghost use Rattle.symq_core.specs.AnswerTexts.{answer_text};
 ghost use Rattle.symq_core.specs.inner.JsonWriting.{AppendsValueTokensIfOk};
 
 use crate::fast_path::fast_path_query;
-use crate::query::read_query;
+use crate::query::{keyword_specifier_and_items, query_by_keyword, read_queried};
 use crate::write_exports::write_exports;
 use crate::write_json::{write_list, write_null, write_number, write_text};
 use crate::write_paths::write_paths;
@@ -66,7 +67,6 @@ fn write_answer(out: &mut Writer, answer: &Answer<'_>) -> Result<(), AllocError>
         Answer::Definitions(definitions) => write_list(out, "definitions", definitions),
         Answer::Leaves(ends) => write_list(out, "leaves", ends),
         Answer::Resolve(entries) => write_list(out, "entries", entries),
-        Answer::Inputs(inputs) => write_list(out, "inputs", inputs),
     }
 }
 
@@ -90,8 +90,49 @@ fn write_query_answer(
     }
 }
 
-/// Reads a query from a JSON value and writes its answer. It writes the fault 'bad query' if the
-/// value is no query. The name of a queried reference is stored in `retained`.
+/// Writes the inputs of a query. The limits of the root are so wide that no checked graph exceeds
+/// them.
+fn write_query_inputs(
+    out: &mut Writer,
+    root: &mut RootSymbol<'_>,
+    query: &Query<'_>,
+) -> Result<(), AllocError>
+    requires { root.old.limits ≡ widest_limits }
+    ensures grown { HasGrown root.old root.new }
+    ensures value { AppendsValueTokensIfOk result out.old out.new
+        (answer_or_fault_json (query_answer root.old.rules root.old.graph
+        (inputs_query (query_view query.now)))) }
+{
+    match root.inputs(query) {
+        Ok(inputs) => write_list(out, "inputs", &inputs),
+        // by these limits a query for inputs has no other fault
+        Err(_) => Err(AllocError),
+    }
+}
+
+/// Reads the query whose inputs a JSON value asks for and writes these. It writes the fault 'bad
+/// query' if the value asks for none. The name of a queried reference is stored in `retained`.
+fn write_value_inputs<'r>(
+    alloc: Global,
+    out: &mut Writer,
+    root: &mut RootSymbol<'_>,
+    value: &Value<'r>,
+    retained: &'r mut Option<Id>,
+) -> Result<(), AllocError>
+    requires { root.old.limits ≡ widest_limits }
+    ensures grown { HasGrown root.old root.new }
+    ensures value { AppendsValueTokensIfOk result out.old out.new (query_result_json root.old.rules
+        root.old.graph (inputs_query_of_data (value_data value.now))) }
+{
+    match read_queried(alloc, value, retained)? {
+        Some(query) => write_query_inputs(out, root, &query),
+        None => write_text(out, "fault", "bad query"),
+    }
+}
+
+/// Reads a query from a JSON value and writes its answer, or the inputs that it asks for. It writes
+/// the fault 'bad query' if the value is no query. The name of a queried reference is stored in
+/// `retained`.
 fn write_value_answer<'r>(
     alloc: Global,
     out: &mut Writer,
@@ -104,9 +145,14 @@ fn write_value_answer<'r>(
     ensures value { AppendsValueTokensIfOk result out.old out.new
         (query_result_json root.old.rules root.old.graph (query_of_json (value_data value.now))) }
 {
-    match read_query(alloc, value, retained)? {
-        Some(query) => write_query_answer(out, root, &query),
-        None => write_text(out, "fault", "bad query"),
+    match keyword_specifier_and_items(value) {
+        Some((keyword, specifier, items)) => {
+            match query_by_keyword(alloc, keyword, specifier, items, retained)? {
+                Some(query) => write_query_answer(out, root, &query),
+                None => write_text(out, "fault", "bad query"),
+            }
+        }
+        None => write_value_inputs(alloc, out, root, value, retained),
     }
 }
 

@@ -1,9 +1,10 @@
 //! Reads queries from JSON values.
 
 ghost use Rattle.std.specs.Prelude.{◌≡◌, option_map, IfOk};
+ghost use Rattle.symbols_answers.specs.Questions.{inputs_query};
 ghost use Rattle.symbols_queries.specs.Queries.{query_with_question, query_view};
 ghost use Rattle.symq_reader.specs.JsonData.{value_data, items_data};
-ghost use Rattle.symq_core.specs.Queries.{query_of_json, keyword_specifier_and_items};
+ghost use Rattle.symq_core.specs.Queries.{keyword_specifier_and_items};
 ghost use Rattle.symq_core.specs.Queries.{query_by_keyword, value_after_inputs};
 ghost use Rattle.symq_core.specs.Queries.{inputs_query_of_data};
 ghost use Rattle.symq_core.specs.Queries.{read_module_question, read_exports_question};
@@ -26,7 +27,7 @@ use symq_reader::{as_list, as_text, as_u32};
 /// Returns the keyword, the specifier and the items after them; `None` if the value isn't such a
 /// list.
 #[tactic(auto, using(crate::proofs::Forms::two_short))]
-fn keyword_specifier_and_items<'v, 'a>(
+pub(crate) fn keyword_specifier_and_items<'v, 'a>(
     value: &'v Value<'a>,
 ) -> Option<(&'a str, &'a str, &'v [Value<'a>])>
     ensures { option_map (λ parts. (parts.0.now, parts.1.now, items_data parts.2.now)) result
@@ -197,7 +198,7 @@ fn deps_query<'r>(specifier: &'r str, items: &[Value<'_>]) -> Option<Query<'r>>
 
 /// Returns the query of a keyword, a specifier and the items after them; `None` if there is no such
 /// query. The name of a queried reference is stored in `retained`.
-fn query_by_keyword<'r>(
+pub(crate) fn query_by_keyword<'r>(
     alloc: Global,
     keyword: &str,
     specifier: &'r str,
@@ -237,42 +238,23 @@ fn value_after_inputs<'v, 'a>(value: &'v Value<'a>) -> Option<&'v Value<'a>>
     }
 }
 
-/// Returns the query for the inputs of a query; `None` if the value describes none. The name of a
+/// Returns the query whose inputs a JSON value asks for; `None` if it asks for none. The name of a
 /// queried reference is stored in `retained`.
-fn inputs_query<'r>(
+pub(crate) fn read_queried<'r>(
     alloc: Global,
     value: &Value<'r>,
     retained: &'r mut Option<Id>,
 ) -> Result<Option<Query<'r>>, AllocError>
-    ensures { IfOk result
-        (λ query. option_map query_view query ≡ inputs_query_of_data (value_data value.now)) }
+    ensures { IfOk result (λ query. option_map (λ queried. inputs_query (query_view queried)) query
+        ≡ inputs_query_of_data (value_data value.now)) }
 {
     let Some(queried) = value_after_inputs(value) else {
         return Ok(None);
     };
-    let Some((keyword, specifier, items)) = keyword_specifier_and_items(queried) else {
-        return Ok(None);
-    };
-    match query_by_keyword(alloc, keyword, specifier, items, retained)? {
-        Some(query) => Ok(Some(query.inputs())),
-        None => Ok(None),
-    }
-}
-
-/// Returns the query that a JSON value describes; `None` if it is no query. The name of a queried
-/// reference is stored in `retained`.
-pub(crate) fn read_query<'r>(
-    alloc: Global,
-    value: &Value<'r>,
-    retained: &'r mut Option<Id>,
-) -> Result<Option<Query<'r>>, AllocError>
-    ensures { IfOk result
-        (λ query. option_map query_view query ≡ query_of_json (value_data value.now)) }
-{
-    match keyword_specifier_and_items(value) {
+    match keyword_specifier_and_items(queried) {
         Some((keyword, specifier, items)) => {
             query_by_keyword(alloc, keyword, specifier, items, retained)
         }
-        None => inputs_query(alloc, value, retained),
+        None => Ok(None),
     }
 }

@@ -11,14 +11,14 @@ pub returns-in-Module-clause-keeps : goal.returns-in-Module-clause-keeps
 returns-in-Module-clause-keeps c = record { grown = has_grown_refl c.args.root.now; refused = tt; enough = λ wide. tt }
 
 pub returns-in-Module-clause-given : goal.returns-in-Module-clause-given
-returns-in-Module-clause-given c = rw c.in-Module.is (module_given c.args.root.now c.args.module_id c.specifier_from_id.result.now c.requires.known c.specifier_from_id.ensures)
+returns-in-Module-clause-given c = rw c.in-Module.is (module_given c.args.root.now c.args.module_id c.specifier_from_id.result.now c.requires c.specifier_from_id.ensures)
 
 pub returns-in-Symbol-clause-keeps : goal.returns-in-Symbol-clause-keeps
 returns-in-Symbol-clause-keeps c = record { grown = has_grown_refl c.args.root.now; refused = tt; enough = λ wide. tt }
 
 pub returns-in-Symbol-clause-given : goal.returns-in-Symbol-clause-given
 returns-in-Symbol-clause-given c = rw c.in-Symbol.is
-    (symbol_given c.args.root.now c.args.module_id (id_view c.in-Symbol.id) c.symbol_id_from_swc.result c.requires.known c.symbol_id_from_swc.ensures)
+    (symbol_given c.args.root.now c.args.module_id (id_view c.in-Symbol.id) c.symbol_id_from_swc.result c.requires c.symbol_id_from_swc.ensures)
 
 pub returns-in-Name-clause-keeps : goal.returns-in-Name-clause-keeps
 returns-in-Name-clause-keeps c =
