@@ -73,9 +73,7 @@ fn reference(alloc: Global) -> Result<SymbolNodeDep<'static>, AllocError> {
 }
 
 /// The modules of the queries, in their order. The first specifier resolves to no module.
-const QUERIED: [&str; 11] = [
-    "absent", "a", "a", "b", "a", "b", "q", "q", "q", "q", "q",
-];
+const QUERIED: [&str; 11] = ["absent", "a", "a", "b", "a", "b", "q", "q", "q", "q", "q"];
 
 /// Returns the name `x` of scope 1.
 fn name_x(alloc: Global) -> Result<Id, AllocError> {

@@ -11,7 +11,8 @@ pub returns-in-Module-clause-keeps : goal.returns-in-Module-clause-keeps
 returns-in-Module-clause-keeps c = record { grown = has_grown_refl c.args.root.now; refused = tt; enough = λ wide. tt }
 
 pub returns-in-Module-clause-given : goal.returns-in-Module-clause-given
-returns-in-Module-clause-given c = rw c.in-Module.is (module_given c.args.root.now c.args.module_id c.specifier_from_id.result.now c.requires c.specifier_from_id.ensures)
+returns-in-Module-clause-given c = rw c.in-Module.is (module_given c.args.root.now c.args.module_id c.specifier_from_id.result.now c.requires
+    c.specifier_from_id.ensures)
 
 pub returns-in-Symbol-clause-keeps : goal.returns-in-Symbol-clause-keeps
 returns-in-Symbol-clause-keeps c = record { grown = has_grown_refl c.args.root.now; refused = tt; enough = λ wide. tt }

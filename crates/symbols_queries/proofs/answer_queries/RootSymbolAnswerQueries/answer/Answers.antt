@@ -16,15 +16,18 @@ returns-in-Err-clause-faults c = module_refused c.args.self.now c.module_from_sp
 
 pub returns-in-Ok-None-clause-answers : goal.returns-in-Ok-None-clause-answers
 returns-in-Ok-None-clause-answers c = (none_given c.args.self.now c.module_from_specifier.new.self c.specifier.result.now (query_view c.args.query.now)
-    (form_is c.args.query.now) c.specifier.ensures c.in-Ok-None.ensures.keeps.grown (rw c.in-Ok-None.field-0-is at c.in-Ok-None.ensures.gives) c.in-Ok-None.ensures.chain).answers
+    (form_is c.args.query.now) c.specifier.ensures c.in-Ok-None.ensures.keeps.grown (rw c.in-Ok-None.field-0-is at c.in-Ok-None.ensures.gives)
+    c.in-Ok-None.ensures.chain).answers
 
 pub returns-in-Ok-None-clause-means : goal.returns-in-Ok-None-clause-means
 returns-in-Ok-None-clause-means c = (none_given c.args.self.now c.module_from_specifier.new.self c.specifier.result.now (query_view c.args.query.now)
-    (form_is c.args.query.now) c.specifier.ensures c.in-Ok-None.ensures.keeps.grown (rw c.in-Ok-None.field-0-is at c.in-Ok-None.ensures.gives) c.in-Ok-None.ensures.chain).is_right_answer
+    (form_is c.args.query.now) c.specifier.ensures c.in-Ok-None.ensures.keeps.grown (rw c.in-Ok-None.field-0-is at c.in-Ok-None.ensures.gives)
+    c.in-Ok-None.ensures.chain).is_right_answer
 
 pub returns-in-Ok-None-clause-stored : goal.returns-in-Ok-None-clause-stored
 returns-in-Ok-None-clause-stored c = (none_given c.args.self.now c.module_from_specifier.new.self c.specifier.result.now (query_view c.args.query.now)
-    (form_is c.args.query.now) c.specifier.ensures c.in-Ok-None.ensures.keeps.grown (rw c.in-Ok-None.field-0-is at c.in-Ok-None.ensures.gives) c.in-Ok-None.ensures.chain).stored
+    (form_is c.args.query.now) c.specifier.ensures c.in-Ok-None.ensures.keeps.grown (rw c.in-Ok-None.field-0-is at c.in-Ok-None.ensures.gives)
+    c.in-Ok-None.ensures.chain).stored
 
 pub answer_on-requires : goal.answer_on-requires
 answer_on-requires c = (queried_first c.args.self.now c.module_from_specifier.new.self c.in-Ok-Some.module_id c.specifier.result.now
@@ -39,28 +42,33 @@ returns-in-Ok-Some-clause-answers c =
     let queried = queried_first c.args.self.now c.module_from_specifier.new.self c.in-Ok-Some.module_id c.specifier.result.now (query_view c.args.query.now)
     c.specifier.ensures c.in-Ok-Some.ensures.stored (rw c.in-Ok-Some.field-0-is at c.in-Ok-Some.ensures.gives) c.in-Ok-Some.ensures.chain in
     IfOk-weaker c.answer_on.result _ _ (λ (given : Answer) is. (query_given c.args.self.now c.module_from_specifier.new.self c.answer_on.new.root
-    c.in-Ok-Some.module_id (query_view c.args.query.now) (answer_view given) (form_is c.args.query.now) queried c.answer_on.ensures.keeps.grown is).answers) c.answer_on.ensures.given
+    c.in-Ok-Some.module_id (query_view c.args.query.now) (answer_view given) (form_is c.args.query.now) queried c.answer_on.ensures.keeps.grown
+    is).answers) c.answer_on.ensures.given
 
 pub returns-in-Ok-Some-clause-means : goal.returns-in-Ok-Some-clause-means
 returns-in-Ok-Some-clause-means c =
     let queried = queried_first c.args.self.now c.module_from_specifier.new.self c.in-Ok-Some.module_id c.specifier.result.now (query_view c.args.query.now)
     c.specifier.ensures c.in-Ok-Some.ensures.stored (rw c.in-Ok-Some.field-0-is at c.in-Ok-Some.ensures.gives) c.in-Ok-Some.ensures.chain in
     IfOk-weaker c.answer_on.result _ _ (λ (given : Answer) is. (query_given c.args.self.now c.module_from_specifier.new.self c.answer_on.new.root
-    c.in-Ok-Some.module_id (query_view c.args.query.now) (answer_view given) (form_is c.args.query.now) queried c.answer_on.ensures.keeps.grown is).is_right_answer) c.answer_on.ensures.given
+    c.in-Ok-Some.module_id (query_view c.args.query.now) (answer_view given) (form_is c.args.query.now) queried c.answer_on.ensures.keeps.grown
+    is).is_right_answer) c.answer_on.ensures.given
 
 pub returns-in-Ok-Some-clause-stored : goal.returns-in-Ok-Some-clause-stored
 returns-in-Ok-Some-clause-stored c =
     let queried = queried_first c.args.self.now c.module_from_specifier.new.self c.in-Ok-Some.module_id c.specifier.result.now (query_view c.args.query.now)
     c.specifier.ensures c.in-Ok-Some.ensures.stored (rw c.in-Ok-Some.field-0-is at c.in-Ok-Some.ensures.gives) c.in-Ok-Some.ensures.chain in
     IfOk-weaker c.answer_on.result _ _ (λ (given : Answer) is. (query_given c.args.self.now c.module_from_specifier.new.self c.answer_on.new.root
-    c.in-Ok-Some.module_id (query_view c.args.query.now) (answer_view given) (form_is c.args.query.now) queried c.answer_on.ensures.keeps.grown is).stored) c.answer_on.ensures.given
+    c.in-Ok-Some.module_id (query_view c.args.query.now) (answer_view given) (form_is c.args.query.now) queried c.answer_on.ensures.keeps.grown
+    is).stored) c.answer_on.ensures.given
 
 pub returns-in-Ok-Some-clause-faults : goal.returns-in-Ok-Some-clause-faults
 returns-in-Ok-Some-clause-faults c =
     let queried = queried_first c.args.self.now c.module_from_specifier.new.self c.in-Ok-Some.module_id c.specifier.result.now (query_view c.args.query.now)
     c.specifier.ensures c.in-Ok-Some.ensures.stored (rw c.in-Ok-Some.field-0-is at c.in-Ok-Some.ensures.gives) c.in-Ok-Some.ensures.chain in
-    IfErr-weaker c.answer_on.result _ _ (λ fault is. query_refused c.args.self.now c.module_from_specifier.new.self c.answer_on.new.root c.in-Ok-Some.module_id
-    (query_view c.args.query.now) fault (form_is c.args.query.now) queried c.answer_on.ensures.keeps.grown c.answer_on.ensures.stores is) c.answer_on.ensures.keeps.refused
+    IfErr-weaker c.answer_on.result _ _ (λ fault is. query_refused c.args.self.now c.module_from_specifier.new.self c.answer_on.new.root
+    c.in-Ok-Some.module_id
+    (query_view c.args.query.now) fault (form_is c.args.query.now) queried c.answer_on.ensures.keeps.grown c.answer_on.ensures.stores is)
+    c.answer_on.ensures.keeps.refused
 
 pub returns-in-Ok-Some-clause-enough : goal.returns-in-Ok-Some-clause-enough
 returns-in-Ok-Some-clause-enough c = λ wide. c.answer_on.ensures.keeps.enough (c.in-Ok-Some.ensures.keeps.grown.limits ∙ wide)
@@ -78,6 +86,7 @@ pub returns-in-Ok-Some-clause-stores : goal.returns-in-Ok-Some-clause-stores
 returns-in-Ok-Some-clause-stores c =
     let queried = queried_first c.args.self.now c.module_from_specifier.new.self c.in-Ok-Some.module_id c.specifier.result.now (query_view c.args.query.now)
     c.specifier.ensures c.in-Ok-Some.ensures.stored (rw c.in-Ok-Some.field-0-is at c.in-Ok-Some.ensures.gives) c.in-Ok-Some.ensures.chain in
-    stores_for_query c.args.self.now c.module_from_specifier.new.self c.answer_on.new.root c.in-Ok-Some.module_id (query_view c.args.query.now) (form_is c.args.query.now) queried
+    stores_for_query c.args.self.now c.module_from_specifier.new.self c.answer_on.new.root c.in-Ok-Some.module_id (query_view c.args.query.now)
+    (form_is c.args.query.now) queried
     (stores_queried c.args.self.now c.module_from_specifier.new.self c.specifier.result.now (query_view c.args.query.now) c.specifier.ensures
     c.in-Ok-Some.ensures.stored) c.answer_on.ensures.stores

@@ -17,24 +17,28 @@ pub returns-in-Err-clause-stores : goal.returns-in-Err-clause-stores
 returns-in-Err-clause-stores c = newly_stored_none_if_same_root c.args.self.now c.module_from_specifier-resolved.new.self c.in-Err.ensures.unchanged
 
 pub inputs-requires : goal.inputs-requires
-inputs-requires c = resolved_in c.args.self.now c.module_from_specifier-resolved.new.self c.module_from_specifier-resolved.new.self (query_view c.args.query.now)
+inputs-requires c = resolved_in c.args.self.now c.module_from_specifier-resolved.new.self c.module_from_specifier-resolved.new.self (query_view
+    c.args.query.now)
     c.specifier.result.now c.specifier.ensures c.in-Ok.ensures.keeps.grown c.in-Ok.ensures.stored c.in-Ok.module_id c.in-Ok.ensures.gives
 
 pub returns-in-Ok-clause-grown : goal.returns-in-Ok-clause-grown
 returns-in-Ok-clause-grown c = has_grown_trans c.in-Ok.ensures.keeps.grown c.inputs.ensures.keeps.keeps.grown
 
 pub returns-in-Ok-clause-answers : goal.returns-in-Ok-clause-answers
-returns-in-Ok-clause-answers c = IfOk-weaker c.inputs.result _ _ (λ inputs is. is.answers) (inputs_returned c.args.self.now c.module_from_specifier-resolved.new.self
+returns-in-Ok-clause-answers c = IfOk-weaker c.inputs.result _ _ (λ inputs is. is.answers) (inputs_returned c.args.self.now
+    c.module_from_specifier-resolved.new.self
     c.inputs.new.root (query_view c.args.query.now) c.specifier.result.now c.specifier.ensures c.in-Ok.ensures.keeps.grown c.in-Ok.ensures.stored
     c.inputs.result c.inputs.ensures.listed c.inputs.ensures.few c.inputs.ensures.stored)
 
 pub returns-in-Ok-clause-means : goal.returns-in-Ok-clause-means
 returns-in-Ok-clause-means c = IfOk-weaker c.inputs.result _ _ (λ inputs is. is.is_right_answer) (inputs_returned c.args.self.now
-    c.module_from_specifier-resolved.new.self c.inputs.new.root (query_view c.args.query.now) c.specifier.result.now c.specifier.ensures c.in-Ok.ensures.keeps.grown
+    c.module_from_specifier-resolved.new.self c.inputs.new.root (query_view c.args.query.now) c.specifier.result.now c.specifier.ensures
+    c.in-Ok.ensures.keeps.grown
     c.in-Ok.ensures.stored c.inputs.result c.inputs.ensures.listed c.inputs.ensures.few c.inputs.ensures.stored)
 
 pub returns-in-Ok-clause-stored : goal.returns-in-Ok-clause-stored
-returns-in-Ok-clause-stored c = IfOk-weaker c.inputs.result _ _ (λ inputs is. is.stored) (inputs_returned c.args.self.now c.module_from_specifier-resolved.new.self
+returns-in-Ok-clause-stored c = IfOk-weaker c.inputs.result _ _ (λ inputs is. is.stored) (inputs_returned c.args.self.now
+    c.module_from_specifier-resolved.new.self
     c.inputs.new.root (query_view c.args.query.now) c.specifier.result.now c.specifier.ensures c.in-Ok.ensures.keeps.grown c.in-Ok.ensures.stored
     c.inputs.result c.inputs.ensures.listed c.inputs.ensures.few c.inputs.ensures.stored)
 
