@@ -11,8 +11,8 @@
  *
  *   SYMQ_DONE       0   the answers
  *   SYMQ_CLOSED     1   "symq: the session is closed": it holds no graph
- *   SYMQ_NO_GRAPH   4   "symq: not a graph: json" or "symq: not a graph: form": the text is no graph
- *   SYMQ_REFUSED    5   "symq: graph refused: N ..": the graph has a fault
+ *   SYMQ_NO_GRAPH   4   "symq: not a graph: json" or "symq: not a graph: form": the text is no graph, or for `symq_put` not that of a module
+ *   SYMQ_REFUSED    5   "symq: graph refused: N ..": the graph has a fault, or would have it with the module
  *   SYMQ_NO_MEMORY  7   "symq: out of memory"
  *
  * The lines have neither a line end nor a terminating 0. */
@@ -73,6 +73,12 @@ uint8_t symq_strict_keyed_open(uint64_t first_key, uint64_t second_key, const ui
 /* Answers lines as `symq_answer` does, over the graph of the session. The session doesn't change, not even with SYMQ_NO_MEMORY. */
 uint8_t symq_ask(struct symq_session *session, const uint8_t *lines, size_t lines_length, uint8_t *out, size_t out_length,
                  size_t *needed);
+
+/* Puts the module of a text into the graph of the session, in place of the one of its specifier, or after all if there is none. The text is
+ * that of a graph with this module alone, its resolutions, and no redirect. They replace all resolutions of that module. It returns
+ * SYMQ_DONE and sets `*needed` to 0; from then on the session answers as one opened anew over the graph with the module in place.
+ * Otherwise it writes the line of its status, and the session is as before: SYMQ_CLOSED, SYMQ_NO_GRAPH, SYMQ_REFUSED or SYMQ_NO_MEMORY. */
+uint8_t symq_put(struct symq_session *session, const uint8_t *text, size_t text_length, uint8_t *out, size_t out_length, size_t *needed);
 
 /* Frees the graph of the session, and leaves it closed. A session that is never closed leaks it. */
 void symq_close(struct symq_session *session);

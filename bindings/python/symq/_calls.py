@@ -30,8 +30,8 @@ def _library() -> ctypes.CDLL:
         call.argtypes = [*keys, *text, *text, *out]
     for call in opens:
         call.argtypes = [*keys, *text, kept, *out]
-    found.symq_ask.argtypes = [kept, *text, *out]
-    for call in (*answers, *opens, found.symq_ask):
+    found.symq_ask.argtypes = found.symq_put.argtypes = [kept, *text, *out]
+    for call in (*answers, *opens, found.symq_ask, found.symq_put):
         call.restype = ctypes.c_uint8
     found.symq_close.argtypes, found.symq_close.restype = [kept], None
     return found
@@ -45,7 +45,7 @@ _KEYS = struct.unpack("=2Q", os.urandom(16))
 class Stop(Exception):
     """The reason why there are no answers: the status of the program, and its line.
 
-    1: the session is closed. 4: the text is no graph. 5: the graph is refused. 7: an allocation failed.
+    1: the session is closed. 4: the text is no graph, or to be put no module. 5: the graph or module is refused. 7: an allocation failed.
     """
 
     def __init__(self, status: int, line: str) -> None:
@@ -102,6 +102,15 @@ class Session:
         """Returns the answers to query lines, each with its line end. Raises `Stop` with status 1 if the session is closed."""
         with self._lock:
             return _told(_LIBRARY.symq_ask, self._kept, lines, len(lines))
+
+    def put(self, module: bytes) -> None:
+        """Puts a module in place of the one of its specifier, or after all. The session then answers as one opened anew.
+
+        `module` is the text of a graph with this module alone, its resolutions, and no redirect. They replace all resolutions of that module.
+        `Stop` is raised if the module isn't accepted. The session is then as before.
+        """
+        with self._lock:
+            _told(_LIBRARY.symq_put, self._kept, module, len(module))
 
     def query(self, query: Query[T]) -> T:
         """Returns the answer to a query. Raises `Fault` if there is none."""

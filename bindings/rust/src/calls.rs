@@ -69,6 +69,14 @@ mod c {
             out_length: usize,
             needed: *mut usize,
         ) -> u8;
+        pub fn symq_put(
+            session: *mut Kept,
+            text: *const u8,
+            text_length: usize,
+            out: *mut u8,
+            out_length: usize,
+            needed: *mut usize,
+        ) -> u8;
         pub fn symq_close(session: *mut Kept);
     }
 }
@@ -210,6 +218,34 @@ impl Session {
                 )
             }
         })
+    }
+
+    /// Puts a module in place of the one of its specifier, or after all. The session then answers as one opened anew.
+    ///
+    /// The text is that of a graph with this module alone, its resolutions, and no redirect. They replace all resolutions of that
+    /// module. After an error the session is as before.
+    ///
+    /// ```
+    /// let mut session = symq::Session::open(b"{}")?;
+    /// session.put(br#"{"modules":[{"specifier":"file:///a.json","kind":"json","text":"1"}]}"#)?;
+    /// assert_eq!(session.ask(b"[\"module\",\"file:///a.json\"]\n")?, b"{\"module\":\"file:///a.json\"}\n");
+    /// # Ok::<(), symq::Stop>(())
+    /// ```
+    pub fn put(&mut self, module: &[u8]) -> Result<(), Stop> {
+        told(|out, needed| {
+            // SAFETY: as of `ask`
+            unsafe {
+                c::symq_put(
+                    &mut self.kept,
+                    module.as_ptr(),
+                    module.len(),
+                    out.as_mut_ptr(),
+                    out.len(),
+                    needed,
+                )
+            }
+        })
+        .map(|_| ())
     }
 
     /// Returns the answers to queries as values, one for each.

@@ -7,7 +7,7 @@ use std::fmt;
 /// The error of a call: the status and the line of the program.
 #[derive(Clone, Debug, PartialEq, Eq)]
 pub struct Stop {
-    /// 4: the text is no graph. 5: the graph is refused. 7: an allocation failed.
+    /// 4: the text is no graph, or to be put no module. 5: the graph or module is refused. 7: an allocation failed.
     pub status: u8,
     pub line: String,
 }

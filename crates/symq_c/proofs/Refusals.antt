@@ -40,7 +40,7 @@ pub accepted_reported : (text : List ℕ) (raw : RawGraph) (made : Result GraphV
     → IfOk made (λ graph. (referrer queried : List ℕ) → resolved_dependency graph referrer queried ≡ resolved_dependency (graph_view raw) referrer queried)
     → IsReported made reported → IfOk reported (IsCheckedGraphOfText text)
 accepted_reported text raw (Ok graph) reported read faultless modules redirects resolutions e =
-    subst (λ t. IfOk t (IsCheckedGraphOfText text)) (sym e) (raw, read, faultless, (modules, redirects, resolutions))
+    subst (λ t. IfOk t (IsCheckedGraphOfText text)) (sym e) (raw, read, (faultless, (modules, redirects, resolutions)))
 accepted_reported text raw (Err fault) (Ok graph) read faultless modules redirects resolutions e = absurd e
 accepted_reported text raw (Err fault) (Err exit_error) read faultless modules redirects resolutions e = tt
 

@@ -2,9 +2,9 @@
 use Rattle.std.specs.Prelude.{◌≡◌, ℕ, List, Ok, Err}
 use Rattle.symbols_ast.specs.declared.graph.raw.RawGraph.{RawGraph}
 use Rattle.symbols_ast.specs.declared.graph.faults.GraphFault.{GraphFault}
-use Rattle.symbols_ast.specs.declared.graph.faults.GraphFault.TheVariants as graph
-use Rattle.symbols_ast.specs.Graph.{GraphView, graph_view, resolved_dependency}
+use Rattle.symbols_ast.specs.Graph.{GraphView, graph_view}
 use Rattle.symbols_graph.specs.GraphFaults.{IsFaultlessGraph, IsFirstGraphFault}
+use Rattle.symbols_graph.specs.PutModules.{IsSameGraph}
 use Rattle.symq_reader.specs.declared.faults.FormatFault.{FormatFault}
 use Rattle.symq_reader.specs.GraphText.{raw_graph_view, read_outcome_of_bytes}
 
@@ -12,14 +12,13 @@ use Rattle.symq_reader.specs.GraphText.{raw_graph_view, read_outcome_of_bytes}
 abbrev pub IsRawGraphOfText : List ℕ → RawGraph → Type 0
 IsRawGraphOfText text raw = read_outcome_of_bytes text ≡ Ok (raw_graph_view raw)
 
--- both have the same modules and redirects, and resolve each specifier alike
-abbrev pub IsSameGraph : GraphView → GraphView → Type 0
-IsSameGraph raw graph = (graph.modules ≡ raw.modules) × (graph.redirects ≡ raw.redirects)
-    × ((referrer text : List ℕ) → resolved_dependency graph referrer text ≡ resolved_dependency raw referrer text)
+-- the graph has no fault, and the second is the same
+abbrev pub IsCheckedGraph : GraphView → GraphView → Type 0
+IsCheckedGraph raw graph = IsFaultlessGraph raw × IsSameGraph raw graph
 
 -- the text describes this graph, which has no faults
 abbrev pub IsCheckedGraphOfText : List ℕ → GraphView → Type 0
-IsCheckedGraphOfText text graph = (raw : RawGraph) × IsRawGraphOfText text raw × IsFaultlessGraph (graph_view raw) × IsSameGraph (graph_view raw) graph
+IsCheckedGraphOfText text graph = (raw : RawGraph) × IsRawGraphOfText text raw × IsCheckedGraph (graph_view raw) graph
 
 -- the text is no graph, for this reason
 abbrev pub IsFormatFaultOfText : List ℕ → FormatFault → Type 0

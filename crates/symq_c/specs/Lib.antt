@@ -1,4 +1,5 @@
 pub mod GraphTexts
+pub mod ModuleTexts
 pub mod OutBuffers
 pub mod Handles
 pub mod Sessions

@@ -1,2 +1,3 @@
 -- For inner functions and proofs alone: nothing in this directory has to be trusted.
 pub mod GraphTexts
+pub mod ModuleTexts

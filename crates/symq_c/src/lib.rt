@@ -8,8 +8,12 @@
 mod answer_calls;
 mod graph_of_text;
 mod keyed_calls;
+pub mod laws;
+mod module_of_text;
 mod out_buffer;
 mod parts;
+mod put_calls;
+mod put_text;
 mod session;
 mod session_calls;
 mod session_handle;
