@@ -13,6 +13,7 @@ with a small stack. The last line is 'N passed, M failed'.
 """
 import argparse
 import glob
+import json
 import os
 import re
 import shutil
@@ -115,6 +116,17 @@ def through_c(folder):
     return {'C: ' + case.name: text for case, text in zip(cases, found)}
 
 
+def module_text(graph):
+    """Returns the text of a graph's first module with its resolutions; if there is none, that of another module."""
+    try:
+        value = json.loads(graph)
+        module = value['modules'][0]
+        rows = [it for it in value.get('resolutions', []) if it[0] == module['specifier']]
+    except (ValueError, LookupError):
+        module, rows = {'specifier': 'put', 'kind': 'external'}, []
+    return json.dumps({'modules': [module], 'resolutions': rows})
+
+
 def refused(folder):
     """Runs hosts whose allocator fails call after call, over small stored cases."""
     host, found = compiled(folder, os.path.join(TESTS, 'library', 'refusing.c'), 'refusing'), {}
@@ -123,7 +135,9 @@ def refused(folder):
         if case.words is None and case.graph is not None:
             at = os.path.join(TESTS, 'cases', name)
             queries = os.path.join(at, 'queries')
-            words = [os.path.join(at, 'graph.json'), queries if os.path.exists(queries) else os.devnull]
+            words = [os.path.join(at, 'graph.json'), queries if os.path.exists(queries) else os.devnull, os.path.join(folder, 'module.json')]
+            with open(words[2], 'w', encoding='utf-8') as file:
+                file.write(module_text(case.graph))
             got = run(host, words, None, Limits(seconds=None), stderr=None)
             found['refusing: ' + name] = got.output.decode() if got.status or int(got.output) < 2 else ''
     return found

@@ -1,5 +1,5 @@
-/* A host with an allocator of its own, which refuses one call after the other: refusing GRAPH QUERIES. It answers by one
- * call of the library, and by a session.
+/* A host with an allocator of its own, which refuses one call after the other: refusing GRAPH QUERIES MODULE. It answers by one
+ * call of the library, by a session, and by a session after the module is put.
  *
  * It defines the three functions that the library takes its memory by. The numbers of refused calls go up until none is
  * refused, each alone and with all behind it. What is wanted: status 7 and its line, or the status and the bytes of the
@@ -51,7 +51,7 @@ struct bytes {
     size_t length;
 };
 
-static struct bytes text, lines, wanted, told;
+static struct bytes text, lines, module, wanted, told, before;
 
 static void read_file(const char *path, struct bytes *to) {
     FILE *file = fopen(path, "rb");
@@ -83,7 +83,32 @@ static uint8_t by_session(struct bytes *to) {
     return status;
 }
 
-static uint8_t (*const ways[])(struct bytes *) = {by_call, by_session};
+static int is_same(const struct bytes *a, const struct bytes *b) {
+    return a->length == b->length && memcmp(a->items, b->items, a->length) == 0;
+}
+
+/* A session that was refused memory when a module was put answers as before, and takes the module once it has memory. */
+static uint8_t by_put(struct bytes *to) {
+    struct symq_session session = {0};
+    uint8_t status = symq_open(text.items, text.length, &session, to->items, sizeof to->items, &to->length);
+    if (status == SYMQ_DONE)
+        status = symq_put(&session, module.items, module.length, to->items, sizeof to->items, &to->length);
+    if (status == SYMQ_NO_MEMORY && session.is_open) {
+        refused = SIZE_MAX;
+        status = symq_ask(&session, lines.items, lines.length, to->items, sizeof to->items, &to->length);
+        if (status != SYMQ_DONE || !is_same(to, &before)) {
+            printf("a session has other answers where a module isn't put\n");
+            exit(1);
+        }
+        status = symq_put(&session, module.items, module.length, to->items, sizeof to->items, &to->length);
+    }
+    if (status == SYMQ_DONE)
+        status = symq_ask(&session, lines.items, lines.length, to->items, sizeof to->items, &to->length);
+    symq_close(&session);
+    return status;
+}
+
+static uint8_t (*const ways[])(struct bytes *) = {by_call, by_session, by_put};
 
 static uint8_t answer(int way, struct bytes *to) {
     calls = 0;
@@ -108,8 +133,7 @@ static size_t refuse_each(int way) {
         for (number = 1; number <= all; number++) {
             refused = number;
             uint8_t got = answer(way, &told);
-            int is_same = got == status && told.length == wanted.length && memcmp(told.items, wanted.items, told.length) == 0;
-            if (!is_same && !(got == SYMQ_NO_MEMORY && is_line(&told, "symq: out of memory"))) {
+            if (!(got == status && is_same(&told, &wanted)) && !(got == SYMQ_NO_MEMORY && is_line(&told, "symq: out of memory"))) {
                 printf("status %d where call %zu is refused\n", got, number);
                 exit(1);
             }
@@ -118,13 +142,16 @@ static size_t refuse_each(int way) {
 }
 
 int main(int count, char **words) {
-    if (count != 3)
+    if (count != 4)
         return 2;
     read_file(words[1], &text);
     read_file(words[2], &lines);
+    read_file(words[3], &module);
     size_t all = refuse_each(0);
-    if (refuse_each(1) < all) {
-        printf("a session takes less than a call\n");
+    before = wanted;
+    size_t in_session = refuse_each(1);
+    if (in_session < all || refuse_each(2) < in_session) {
+        printf("a session takes less than a call, or less with a module put\n");
         return 1;
     }
     printf("%zu\n", all);

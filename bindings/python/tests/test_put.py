@@ -11,11 +11,12 @@ from collections import Counter
 
 PACKAGE = os.path.dirname(os.path.dirname(os.path.abspath(__file__)))
 TOP = os.path.dirname(os.path.dirname(PACKAGE))
-sys.path[:0] = [PACKAGE, os.path.join(TOP, "evidence", "model")]
+sys.path[:0] = [PACKAGE, os.path.join(TOP, "tools"), os.path.join(TOP, "evidence", "model")]
 
 import symq  # noqa: E402
 from graphs.cases import case_of_seed  # noqa: E402
 from graphs.texts import compact  # noqa: E402
+from run_cases import all_cases  # noqa: E402
 
 SEEDS = int(os.environ.get("SYMQ_SEEDS", "300"))
 FORM = (4, "symq: not a graph: form")
@@ -48,6 +49,12 @@ def stopped(call):
     except symq.Stop as stop:
         return stop.status, stop.line
     return None
+
+
+def modules_of(case):
+    """Returns the modules of a graph that may have faults, so far as they are objects."""
+    found = (case.value or {}).get("modules")
+    return [it for it in found if isinstance(it, dict)] if isinstance(found, list) else []
 
 
 def module_to_put(rng, value, others):
@@ -83,8 +90,7 @@ class Random(unittest.TestCase):
         counts = Counter()
         for seed in range(SEEDS):
             case, rng = case_of_seed(seed, True), random.Random("put %d" % seed)
-            broken = case_of_seed(seed + 1).value or {}
-            others = [it for it in broken.get("modules") or [] if isinstance(it, dict)] or [external("a")]
+            others = modules_of(case_of_seed(seed + 1)) or [external("a")]
             value = {"modules": [], "resolutions": [], **{key: it or [] for key, it in case.value.items()}}
             lines = b"\n".join(case.lines) + b"\n"
             with self.subTest(seed), symq.Session(compact(value), strict=case.strict) as session:
@@ -134,6 +140,23 @@ class Refusals(unittest.TestCase):
 
 
 class Puts(unittest.TestCase):
+    def test_answers_are_the_programs(self):
+        count = 0
+        for case in all_cases()[0]:
+            if case.program != "symq" or case.words not in (None, ["--strict", "graph.json"]) or not case.given or case.want.status:
+                continue
+            value = json.loads(case.graph)
+            for at, module in enumerate(value.get("modules") or []):
+                name, rows = module["specifier"], value.get("resolutions") or []
+                without = {**value, "modules": [*value["modules"][:at], external(name), *value["modules"][at + 1:]],
+                           "resolutions": [it for it in rows if it[0] != name] + [[name, "./gone", name]]}
+                with self.subTest((case.name, name)), symq.Session(json.dumps(without).encode(), strict=bool(case.words)) as session:
+                    session.ask(case.given)
+                    session.put(text_of(module, [it for it in rows if it[0] == name]))
+                    self.assertEqual(session.ask(case.given), case.want.output)
+                count += 1
+        self.assertGreater(count, 100)
+
     def test_a_module_that_was_absent_appears(self):
         with symq.Session(b'{"redirects":[["r","a"]]}') as session:
             self.assertEqual(session.ask(b'["module","r"]\n'), b"null\n")

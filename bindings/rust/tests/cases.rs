@@ -128,6 +128,43 @@ fn many_sessions_at_once() {
 }
 
 #[test]
+fn a_put_module_is_answered() {
+    let text = |names: &[&str], rows: &str| {
+        let modules: Vec<String> = names
+            .iter()
+            .map(|it| format!(r#"{{"specifier":"{it}","kind":"json","text":"1"}}"#))
+            .collect();
+        let modules = modules.join(",");
+        format!(r#"{{"modules":[{modules}],"resolutions":[{rows}]}}"#)
+    };
+    let lines = b"[\"module\",\"a\"]\n[\"module\",\"b\"]\n";
+    let mut session = Session::open(text(&["a"], "").as_bytes()).unwrap();
+    let before = session.ask(lines).unwrap();
+    let rows = r#"["b","./a","a"]"#;
+    for (module, status, line) in [
+        ("{".to_string(), 4, "symq: not a graph: json"),
+        (text(&["a", "b"], ""), 4, "symq: not a graph: form"),
+        (
+            text(&["b"], r#"["a","./b","b"]"#),
+            4,
+            "symq: not a graph: form",
+        ),
+        (
+            text(&["b"], &format!("{rows},{rows}")),
+            5,
+            "symq: graph refused: 6 b ./a",
+        ),
+    ] {
+        let line = line.to_string();
+        assert_eq!(session.put(module.as_bytes()), Err(Stop { status, line }));
+        assert_eq!(session.ask(lines).unwrap(), before);
+    }
+    session.put(text(&["b"], rows).as_bytes()).unwrap();
+    let want = b"{\"module\":\"a\"}\n{\"module\":\"b\"}\n";
+    assert_eq!(session.ask(lines).unwrap(), want);
+}
+
+#[test]
 fn four_threads_at_once() {
     let threads: Vec<_> = (0..4).map(|_| thread::spawn(|| wrong(by_call))).collect();
     for it in threads {
