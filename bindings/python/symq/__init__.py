@@ -7,6 +7,7 @@
     with symq.Session(graph) as session:                     the same, over a graph that is read once
         session.ask(b'["exports","file:///a.ts"]\\n')
         session.query(symq.exports("file:///a.ts"))          the answer as a dataclass
+        session.put(module)                                  then answers with this module in place, with its resolutions
 
 `graph` is the text of a graph as bytes. `strict=True` answers by strict rules. If there are no answers, `Stop` is raised, with the program's status and line.
 For each form of query the function of its name makes one. A query without an answer has a `Fault`.

@@ -23,12 +23,10 @@ bytes_of_pair pair = (string_bytes pair.0, string_bytes pair.1)
 
 -- one more row, and one more pair
 pub with_row : (rows : List RawResolution) (row : RawResolution) (referrer : List ℕ) (resolved : List (String Global × String Global))
-    → string_bytes row.referrer ≡ referrer → map resolution_view rows ≡ map (resolution_with_referrer referrer) (string_pairs_bytes resolved)
-    → map resolution_view (rows ++ row ∷ [])
-    ≡ map (resolution_with_referrer referrer) (string_pairs_bytes (resolved ++ (row.specifier_text, row.specifier) ∷ []))
-with_row rows row referrer resolved is before =
-    let pair : String Global × String Global = (row.specifier_text, row.specifier) in
-    map_push resolution_view rows row
-    ∙ (λ i. before i ++ record { referrer = is i; specifier_text = string_bytes row.specifier_text; specifier = string_bytes row.specifier } ∷ [])
+    (pair : String Global × String Global) → resolution_view row ≡ resolution_with_referrer referrer (bytes_of_pair pair)
+    → map resolution_view rows ≡ map (resolution_with_referrer referrer) (string_pairs_bytes resolved)
+    → map resolution_view (rows ++ row ∷ []) ≡ map (resolution_with_referrer referrer) (string_pairs_bytes (resolved ++ pair ∷ []))
+with_row rows row referrer resolved pair is before =
+    map_push resolution_view rows row ∙ (λ i. before i ++ is i ∷ [])
     ∙ sym (ap (map (resolution_with_referrer referrer)) (map_push bytes_of_pair resolved pair)
     ∙ map_push (resolution_with_referrer referrer) (string_pairs_bytes resolved) (bytes_of_pair pair))

@@ -1,6 +1,6 @@
 //! Reads a module with its resolutions from the text of a graph of this module alone.
 
-ghost use Rattle.std.specs.Prelude.{◌≡◌, ◌≢◌, ◌∷◌, [], IfOk, IfErr, List, MatchOption, map, ℕ};
+ghost use Rattle.std.specs.Prelude.{◌≡◌, ◌≢◌, ◌∷◌, [], IfOk, IfErr, List, MatchOption, map, string_bytes, ℕ};
 ghost use Rattle.symbols_ast.specs.Graph.{ModuleView, graph_view, module_view, resolution_view};
 ghost use Rattle.symbols_graph.specs.PutModules.{resolution_with_referrer};
 ghost use Rattle.symbols_graph.specs.Tables.{string_pairs_bytes};
@@ -29,6 +29,20 @@ fn only_module(mut modules: Vec<RawModule>) -> Option<RawModule>
     if modules.is_empty() { Some(last) } else { None }
 }
 
+/// Returns the specifier text of a resolution, and the specifier that it resolves to; `None` if it
+/// is one of another referrer.
+fn pair_of(referrer: &str, row: RawResolution) -> Option<(String, String)>
+    ensures { MatchOption result (string_bytes row.referrer ≢ referrer.now)
+        (λ pair. resolution_view row ≡ resolution_with_referrer referrer.now
+        (string_bytes pair.0, string_bytes pair.1)) }
+{
+    if row.referrer.as_str() == referrer {
+        Some((row.specifier_text, row.specifier))
+    } else {
+        None
+    }
+}
+
 /// Returns the specifier texts of resolutions, each with the specifier that it resolves to.
 ///
 /// # Errors
@@ -47,10 +61,10 @@ fn resolutions_of(
 {
     let mut resolved = Vec::with_capacity(alloc, rows.len())?;
     for row in rows {
-        if row.referrer.as_str() != referrer {
+        let Some(pair) = pair_of(referrer, row) else {
             return Err(FormatFault::BadForm);
-        }
-        resolved.push((row.specifier_text, row.specifier))?;
+        };
+        resolved.push(pair)?;
     }
     Ok(resolved)
 }
