@@ -11,8 +11,8 @@ use Rattle.symbols_graph.specs.Tables.{string_pairs_bytes}
 pub row_has_referrer : (rows : List RawResolution) (n : ℕ) (row : RawResolution) (referrer : List ℕ) (resolved : List (List ℕ × List ℕ)) → n < length rows
     → row ≡ get_or rows n row → map resolution_view rows ≡ map (resolution_with_referrer referrer) resolved → string_bytes row.referrer ≡ referrer
 row_has_referrer rows n row referrer resolved inside is same =
-    let as_long : length rows ≡ length resolved = sym (length-map rows resolution_view) ∙ ap length same ∙ length-map resolved (resolution_with_referrer referrer)
-    in
+    let as_long : length rows ≡ length resolved =
+    sym (length-map rows resolution_view) ∙ ap length same ∙ length-map resolved (resolution_with_referrer referrer) in
     let pair : List ℕ × List ℕ = (string_bytes row.specifier_text, string_bytes row.specifier) in
     ap (λ (r : Resolution). r.referrer) (ap resolution_view is ∙ sym (get_or-map resolution_view rows n row (resolution_view row) inside)
     ∙ ap (λ (rs : List Resolution). get_or rs n (resolution_view row)) same

@@ -18,6 +18,7 @@ returns-in_default-clause-refused c =
 
 pub loop-row-preserved : goal.loop-row-preserved
 loop-row-preserved c =
-    with_row c.loop-row.yielded c.in-Some.row c.args.referrer.now c.loop-row.resolved.items c.in-Some-pair_of.pair c.in-Some-pair_of.ensures c.loop-row.invariant
+    with_row c.loop-row.yielded c.in-Some.row c.args.referrer.now c.loop-row.resolved.items c.in-Some-pair_of.pair c.in-Some-pair_of.ensures
+    c.loop-row.invariant
     ∙ ap (λ (pairs : List (String Global × String Global)). map (resolution_with_referrer c.args.referrer.now) (string_pairs_bytes pairs))
     (sym c.in_ok-push.ensures.items)
