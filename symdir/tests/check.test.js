@@ -68,7 +68,8 @@ test('words for each fault', () => {
   // what each sort of a field's value has to be
   const method = { kind: 'ClassMethod', range: [0, 0], key: 1, function: 1, method_kind: 'method' };
   const odd = /** @type {[object, string][]} */ ([[{ kind: 'Ident', range: [0, 0], sym: ['a'] }, 'node 0 (Ident): "sym" has to be [name, scope], a text and a number, and is ["a"]'],
-    [{ kind: 'Ident', range: [0, 0], sym: ['a', 2 ** 32] }, '"sym" has to be [name, scope], a text and a number'], [{ kind: 'Ident', range: [0, 0], sym: [1, 1] }, '"sym" has to be [name, scope], a text and a number'],
+    [{ kind: 'Ident', range: [0, 0], sym: ['a', 2 ** 32] }, '"sym" has to be [name, scope], a text and a number'],
+    [{ kind: 'Ident', range: [0, 0], sym: { 0: 'a', 1: 1, length: 2 } }, '"sym" has to be [name, scope], a text and a number'], [{ kind: 'Ident', range: [0, 0], sym: [1, 1] }, '"sym" has to be [name, scope], a text and a number'],
     [{ kind: 'Str', range: [0, 0], value: 1 }, 'node 0 (Str): "value" has to be a text, and is 1'], [{ kind: 'Arrow', range: [0, 0], body: 1, is_block: 1 }, '"is_block" has to be true or false, and is 1'],
     [{ ...method, accessibility: 'own' }, '"accessibility" has to be "public", "protected" or "private", and is "own"'], [{ ...method, method_kind: 'set' }, '"method_kind" has to be "method", "getter" or "setter", and is "set"'],
     [{ ...method, key: 'a' }, '"key" has to be the number of a node, and is "a"'], [{ kind: 'Program', range: [0, 0], body: 1 }, '"body" has to be a list']]);

@@ -63,6 +63,12 @@ export function g(a: string): void;
 /** second overload */
 export function g(a: number): void;
 export function g(a: any) {}
+/* not /** one */
+export const p = 1;
+export interface O {
+  /* nor /** this */
+  q: 1;
+}
 /** of default */
 export default class {}
 `;

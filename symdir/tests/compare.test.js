@@ -162,7 +162,8 @@ test('parameters that compare, divide, or have templates in their values', () =>
 
 test('parentheses around a type are no parameters', () => {
   for (const it of ['= (A)[]', '= (A | B)[]', ': ("a")[]', '= T extends U ? (A) : B']) assert.equal(parameters(it), null, it);
-  for (const [text, wanted] of Object.entries({ ': (a) => 1': ['a'], '= new (a: 1) => 2': ['a: 1'], '= { b(a: 1): 2 }': ['a: 1'], 'static <T extends (b: 1) => 2>(a: T): 1': ['a: T'], '?(a): 1': ['a'], 'get (): 1': [] })) assert.deepEqual(parameters(text), wanted, text);
+  for (const [text, wanted] of Object.entries({ ': (a) => 1': ['a'], '= new (a: 1) => 2': ['a: 1'], '= { b(a: 1): 2 }': ['a: 1'], 'static <T extends (b: 1) => 2>(a: T): 1': ['a: T'],
+    '<T extends A<B>, U extends (b: 1) => 2>(a: T): 1': ['a: T'], '?(a): 1': ['a'], 'get (): 1': [] })) assert.deepEqual(parameters(text), wanted, text);
 });
 
 test('a signature that is nested too deep to be parsed counts as another one, and the next one is read as ever', async () => {

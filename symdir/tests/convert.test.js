@@ -51,6 +51,21 @@ test('ranges count bytes', () => {
   assert.deepEqual(nodes('"😀"; x').find((it) => it.kind === 'Ident').range, [8, 9]);
 });
 
+test('ranges count bytes behind each sort of character, at the borders between them', () => {
+  for (const it of ['\u007f', '\u0080', '\u07ff', '\u0800', '\ud7ff', '\ue000', '\uffff', '\u{10000}', '\u{103ff}', '\u{10ffff}']) {
+    const text = `"é${it}"; x;`;
+    const start = Buffer.byteLength(`"é${it}"; `);
+    assert.deepEqual(nodes(text).find((one) => one.kind === 'Ident').range, [start, start + 1], JSON.stringify(it));
+  }
+});
+
+test('an annotation begins with its colon or its arrow, and that of a predicate with the type', () => {
+  const ranges = (/** @type {string} */ text) => nodes(text).filter((it) => it.kind === 'TsTypeAnn').map(({ range: [start, end] }) => text.slice(start, end));
+  assert.deepEqual(ranges('let a: B; function f(g : H): I {}'), [': B', ': H', ': I']);
+  assert.deepEqual(ranges('type A = () => B; type C = new () => D; type E = (f: G) => void;'), ['=> B', '=> D', ': G', '=> void']);
+  assert.deepEqual(ranges('declare function f(a: unknown): a is B;'), [': unknown', ': a is B', 'B']);
+});
+
 test('a lone surrogate is written as U+FFFD', () => {
   const made = convert('a.ts', 'const a = "\ud800";', { ...languageOf('a.ts'), ...PLAIN });
   assert.equal(made.text, 'const a = "\ufffd";');
@@ -82,6 +97,28 @@ test('a type parameter hides a type, and not a value', () => {
   const [alias, value, annotation, own, queried] = scopes(list, 'T');
   assert.deepEqual([alias, value, annotation, queried], [1, 1, 1, 1]);
   assert.notEqual(own, 1);
+});
+
+test('a type parameter of a class, an interface or a function hides no value', () => {
+  assert.deepEqual(scopes(nodes('class A<A> { b: A }'), 'A').map((it) => it === 1), [true, false]);
+  assert.deepEqual(scopes(nodes('const T = 1; function f<T>(a = T, b: T) {}'), 'T').map((it) => it === 1), [true, true, false]);
+  assert.deepEqual(scopes(nodes('declare const T: unique symbol; interface I<T> { [T]: T }'), 'T').map((it) => it === 1), [true, true, false]);
+  assert.deepEqual(scopes(nodes('const T = 1; class C<T> { [T] = T; a: T; m(b = T) {} }'), 'T').map((it) => it === 1), [true, true, true, false, true]);
+});
+
+test('`var` in a function isn\'t that of the function around it, or of its parameters', () => {
+  const [read, own] = scopes(nodes('function f() { x; function g() { var x; } }', 'a.ts', { bodies: true }), 'x');
+  assert.deepEqual([read, own === 1], [1, false]);
+  for (const it of ['class A { m() { var x; } }', 'namespace N { var x; }', 'const h = () => { var x; };']) {
+    const all = scopes(nodes(`function f() { x; ${it} }`.replace(/^.*namespace.*$/, `namespace M { x; ${it} }`), 'a.ts', { bodies: true }), 'x');
+    assert.deepEqual([all.length, all[0], all[1] === 1], [2, 1, false], it);
+  }
+});
+
+test('a mapped type needs no type, and no name for its keys', () => {
+  const names = (/** @type {string} */ text) => nodes(text).flatMap((/** @type {any} */ it) => (it.kind === 'Ident' ? [it.sym[0]] : []));
+  assert.deepEqual([names('type A = { [K in B] };'), names('type A = { [K in B]: C };'), names('type A = { [K in B as D]: C };')],
+    [['A', 'B'], ['A', 'B', 'C'], ['A', 'B', 'D', 'C']]);
 });
 
 test('what `infer` names holds in the true branch', () => {
@@ -208,6 +245,8 @@ test('a syntax error is told with its place', () => {
   const made = convert('a.ts', 'const a = 1;\nconst b = ;\n', { ...languageOf('a.ts'), ...PLAIN });
   assert.equal(made.tree, null);
   assert.deepEqual(made.fault, { line: 2, column: 11, text: 'Expression expected.' });
+  const { nodes: none, fault: same } = nodesOf('a.ts', 'const a = 1;\nconst b = ;\n', { ...languageOf('a.ts'), ...PLAIN });
+  assert.deepEqual([none, same], [null, made.fault]);
   // what the parser of TypeScript lets pass
   const texts = ['import { a } from b;', 'import a from `b`;', 'export * from b;', 'export { a } from b();', 'declare module "m" { export * from b; }'];
   for (const text of texts) {
@@ -222,6 +261,8 @@ test('declarations of a declaration file without exports are exported where that
     nodes(text + more, 'a.d.ts', how).filter((/** @type {any} */ it) => it.kind === 'ExportDecl').length);
   assert.equal(count({}), 0);
   assert.equal(count({ ambient: true }), 2);
+  const more = ' declare function f(): 1; declare class G {} type H = 1; declare enum I {} declare namespace J {} declare module "k" {} declare module L {}';
+  assert.equal(count({ ambient: true }, more), 8);
   assert.equal(count({ ambient: true }, 'export {};'), 0);
   assert.equal(nodes('declare const b: number;', 'a.d.ts', { ambient: true }).filter((/** @type {any} */ it) => it.kind === 'ExportDecl').length, 0);
   assert.deepEqual(nodesOf('a.d.ts', text, { ...languageOf('a.d.ts'), ...PLAIN }).implicit, ['b', 'C']);
@@ -299,7 +340,7 @@ test('a text that is nested too deep for the stack leaves nothing behind for the
 
 test('a comment isn\'t parsed for its tags, wherever it begins a line, and so may be nested as deep as it likes', () => {
   for (const name of ['a.ts', 'a.js']) {
-    for (const before of ['', '\n', ' \t', 'b;\r\n', '/** c */\n', '#!/bin/sh\n']) {
+    for (const before of ['', '\n', ' \t', 'b;\r\n', 'b;\r', 'b;\u2028', 'b;\u2029\t', '/** c */\n', '#!/bin/sh\n']) {
       const { fault, nodes: made } = nodesOf(name, `${before}/** @type {${'['.repeat(20000)}1${']'.repeat(20000)}} */\nexport let a = 1;\n`, { ...languageOf(name), ...PLAIN });
       assert.deepEqual([fault, made?.filter((it) => it.kind === 'BindingIdent').length], [null, 1], JSON.stringify(before));
     }

@@ -89,6 +89,10 @@ test('with verbatimModuleSyntax an import stays unless `type` stands before all 
   assert.deepEqual(circlesBy(emitted, null).map((it) => it.modules.join(' ')), ['a.ts b.ts', 'e.ts f.ts']);
 });
 
+test('a module that imports itself is a shortest cycle, whichever it is', () => {
+  assert.deepEqual([shortestCycle([[1, 0], [0]]), shortestCycle([[1], [0, 1]]), shortestCycle([[1], [2], [0, 2]])], [[0], [1], [2]]);
+});
+
 test('each step of a shortest cycle has its statement, and leads to the next', () => {
   const { cycles } = answer(['cycles', folderOf(FILES)]);
   const [{ shortest, cut }] = cycles;

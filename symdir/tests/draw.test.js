@@ -78,6 +78,30 @@ test('a box of one module has six lines at most, and three where there are over 
   assert.deepEqual(smallIn(six), long.slice(0, 6));
 });
 
+test('as many names stand in a line as fit: 34 characters where a module has a box, 40 where several share one', () => {
+  const names = (/** @type {number[]} */ ...lengths) => lengths.map((it, i) => String(i).repeat(it));
+  const alone = (/** @type {string[]} */ all) => smallIn(drawn({ 'a.ts': all }, [['index.ts', 'a.ts', true, all]]));
+  assert.deepEqual(alone(['b']), ['b']);
+  const [fit, wide] = [names(16, 16), names(17, 16)];
+  assert.deepEqual([alone(fit), alone(wide)], [[fit.join(', ')], wide]);
+  const shared = (/** @type {string[]} */ all) => {
+    const owned = { 'x/a.ts': all, 'x/b.ts': [], 'x/c.ts': [] };
+    return smallIn(drawn(owned, Object.keys(owned).map((it) => ['index.ts', it, true, ['n']])))[1];
+  };
+  assert.equal(shared(names(12, 12, 12)), names(12, 12, 12).join(', '));
+  // the number of those that are left out takes eight characters
+  assert.equal(shared(names(13, 12, 12)), `${names(13, 12).join(', ')} + 1`);
+  assert.equal(shared(names(15, 15, 15)), `${names(15, 15).join(', ')} + 1`);
+  assert.equal(shared(names(16, 15, 15)), `${names(16)} + 2`);
+});
+
+test('a frame is around boxes of one directory where there are others', () => {
+  const edges = /** @type {[string, string, boolean, string[]][]} */ ([['x/index.ts', 'x/a.ts', true, ['a']], ['x/a.ts', 'x/b.ts', true, ['b']]]);
+  const frames = (/** @type {string[]} */ ...more) => (
+    drawn({ 'x/a.ts': ['a'], 'x/b.ts': ['b'] }, [...edges, ...more.map((it) => /** @type {typeof edges[0]} */ (['x/a.ts', it, true, ['c']]))], { entries: ['x/index.ts'] }).match(/subgraph/g)?.length ?? 0);
+  assert.deepEqual([frames(), frames('y/c.ts'), frames('y/c.ts', 'y/d.ts'), frames('c.ts', 'd.ts')], [0, 1, 2, 1]);
+});
+
 test('boxes are titled by the file, or by its path where another has its name, and colored by what they are', () => {
   const text = drawn({ 'x/a.ts': ['a'], 'y/a.ts': ['b'], 'y/b.ts': ['c'], 'far.ts': ['d'] }, [['index.ts', 'x/a.ts', true, ['a']], ['x/a.ts', 'y/a.ts', true, ['b']], ['x/a.ts', 'y/b.ts', false, ['c']], ['index.ts', 'far.ts', false, ['d']]], { unread: ['far.ts'] });
   assert.deepEqual([...text.matchAll(/BGCOLOR="(#\w+)"><B>(.*?)<\/B>( \(entry\))?/g)].map(([, ...it]) => it.join(' ')).sort(), [

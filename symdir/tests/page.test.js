@@ -55,7 +55,31 @@ test('filters by kind, entry, file and directory', () => {
   assert.deepEqual(found('', { file: '/' }).length, 5);
 });
 
+test('of members the best are told, and rows go by their own names first', () => {
+  const row = (/** @type {string} */ name, /** @type {string[]} */ members = []) => ({ name, kind: 'class', entry: 'index.ts', files: ['a.ts'], members });
+  const told = (/** @type {string} */ text, /** @type {ReturnType<typeof row>[]} */ ...rows) => search(rows, { text, kind: '', entry: '', file: '' })
+    .map(({ index, members }) => [rows[index].name, ...members.map((it) => rows[index].members[it])].join(' '));
+  // all of it, its beginning, one of its words, the first letters of these, a part: each with those of the next two sorts
+  const members = ['A#to', 'A#toString', 'A#goTo', 'A#tableOf', 'A#into'];
+  const from = (/** @type {number} */ i) => told('to', row('A', members.slice(i))).join();
+  assert.deepEqual([0, 1, 2, 3, 4, 5].map(from), [
+    'A A#to A#toString', 'A A#toString A#goTo A#tableOf', 'A A#goTo A#tableOf A#into', 'A A#tableOf A#into', 'A A#into', '']);
+  assert.deepEqual(told('to', row('A', ['A#TO', 'A#goTo', 'A#tableOf'])), ['A A#TO A#goTo']);
+  // where the name itself has it as a word, its members aren't looked at
+  for (const it of ['to', 'TO', 'toA', 'goTo']) assert.deepEqual(told('to', row(it, [`${it}#to`])), [it]);
+  for (const it of ['tableOf', 'into']) assert.deepEqual(told('to', row(it, [`${it}#to`])), [`${it} ${it}#to`]);
+  assert.deepEqual(told('to', row('B', ['B#into']), row('C', ['C#to']), row('into'), row('to'), row('D', ['D#to'])), ['to', 'into', 'C C#to', 'D D#to', 'B B#into']);
+  assert.deepEqual(told('bar', row('foobar'), row('foo_bar'), row('fooBar')), ['foo_bar', 'fooBar', 'foobar']);
+  assert.deepEqual([found('tb'), told('gon', row('get-own-name')), told('b64u', row('base64Url'))], [['TabBarWidget'], ['get-own-name'], ['base64Url']]);
+});
+
+test('a filter takes a whole file, entry or kind, or a directory by its slash', () => {
+  assert.deepEqual([found('', { file: 'src/a' }), found('', { file: 'src' }), found('', { entry: 'more' }), found('', { kind: 'name' })], [[], [], [], []]);
+});
+
 test('a search is kept in the address', () => {
+  const none = { text: '', kind: '', entry: '', file: '' };
+  assert.deepEqual([{ text: ' a ' }, { kind: 'b' }, { entry: 'c' }, { file: 'd' }].map((it) => hashOf({ ...none, ...it })), ['#q=a', '#kind=b', '#entry=c', '#file=d']);
   const query = { text: 'a b&c=#%', kind: 'class', entry: 'x/y.ts', file: 'ø/' };
   assert.deepEqual(queryOf(hashOf(query)), query);
   assert.equal(hashOf({ text: ' ', kind: '', entry: '', file: '' }), '');

@@ -184,6 +184,34 @@ test('the newest TypeScript of 4.8 to 6 is taken, and no other', () => {
   }
 });
 
+test('a TypeScript is the file that its package.json names, where that is there, and one of its name alone', () => {
+  const beside = findTypeScript('/');
+  const at = (/** @type {object} */ json, /** @type {string[]} */ ...files) => {
+    const folder = folderOf({ 'node_modules/typescript/package.json': JSON.stringify({ version: '6.99.0', ...json }), ...empty(...files.map((it) => `node_modules/typescript/${it}`)) });
+    const { file } = findTypeScript(folder);
+    return file === beside.file ? 'beside' : path.relative(path.join(folder, 'node_modules/typescript'), file);
+  };
+  assert.equal(at({ name: 'typescript' }, 'lib/typescript.js'), 'lib/typescript.js');
+  assert.equal(at({ name: 'typescript', main: 'own.js' }, 'lib/typescript.js', 'own.js'), 'own.js');
+  assert.deepEqual([at({ name: 'typescript' }), at({ name: 'typescript', main: 'own.js' }, 'lib/typescript.js'), at({ name: 'other' }, 'lib/typescript.js')], ['beside', 'beside', 'beside']);
+});
+
+test('an empty part of the PATH isn\'t the current directory', () => {
+  const beside = findTypeScript('/');
+  const [before, { PATH }] = [process.cwd(), process.env];
+  const own = folderOf({ 'package.json': JSON.stringify({ name: 'typescript', version: '6.99.0' }), 'lib/typescript.js': '', 'bin/tsc': '' });
+  process.chdir(path.join(own, 'bin'));
+  try {
+    process.env.PATH = `:${PATH}`;
+    assert.equal(findTypeScript('/').file, beside.file);
+    process.env.PATH = `${own}/bin:${PATH}`;
+    assert.equal(findTypeScript('/').file, `${own}/lib/typescript.js`);
+  } finally {
+    process.env.PATH = PATH;
+    process.chdir(before);
+  }
+});
+
 test('names are ordered as the language orders them, and capitals count where all else is the same', () => {
   const signs = ['_', '$', '0', '1', '9', 'a', 'B', 'b', 'Z', 'é', '#'];
   const names = ['', ...signs, ...signs.flatMap((a) => signs.flatMap((b) => [a + b, `${a}x${b}`]))].map((name) => ({ name }));

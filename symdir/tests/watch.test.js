@@ -16,6 +16,11 @@ function writer(folder) {
   };
 }
 
+test('what is there twice differs from what is there once', () => {
+  assert.deepEqual([differentLines(['a'], ['a', 'a']), differentLines(['a', 'b', 'a'], ['b', 'a']), differentLines(['a', 'a'], ['a', 'a'])], [['+ a'], ['- a'], []]);
+  assert.deepEqual(differenceOf({ a: [1, 1, 2] }, { a: [1, 2, 2, 2] }), { removed: { a: [1] }, added: { a: [2, 2] } });
+});
+
 for (const command of ['api', 'leaks', 'missing']) {
   test(`${command}: a file appears where a specifier was absent, and goes`, async () => {
     const folder = folderOf({ 'index.ts': 'export * from "./a";\nexport { b } from "./b";\n', 'a.ts': 'export const a: T = 1;\ntype T = number;\n' });
