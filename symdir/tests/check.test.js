@@ -69,13 +69,16 @@ test('words for each fault', () => {
   const method = { kind: 'ClassMethod', range: [0, 0], key: 1, function: 1, method_kind: 'method' };
   const odd = /** @type {[object, string][]} */ ([[{ kind: 'Ident', range: [0, 0], sym: ['a'] }, 'node 0 (Ident): "sym" has to be [name, scope], a text and a number, and is ["a"]'],
     [{ kind: 'Ident', range: [0, 0], sym: ['a', 2 ** 32] }, '"sym" has to be [name, scope], a text and a number'],
-    [{ kind: 'Ident', range: [0, 0], sym: { 0: 'a', 1: 1, length: 2 } }, '"sym" has to be [name, scope], a text and a number'], [{ kind: 'Ident', range: [0, 0], sym: [1, 1] }, '"sym" has to be [name, scope], a text and a number'],
+    [{ kind: 'Ident', range: [0, 0], sym: { 0: 'a', 1: 1, length: 2 } }, '"sym" has to be [name, scope], a text and a number'],
+    [{ kind: 'Ident', range: [0, 0], sym: ['a', 1, 2] }, '"sym" has to be [name, scope], a text and a number'], [{ kind: 'Ident', range: [0, 0], sym: [1, 1] }, '"sym" has to be [name, scope], a text and a number'],
     [{ kind: 'Str', range: [0, 0], value: 1 }, 'node 0 (Str): "value" has to be a text, and is 1'], [{ kind: 'Arrow', range: [0, 0], body: 1, is_block: 1 }, '"is_block" has to be true or false, and is 1'],
     [{ ...method, accessibility: 'own' }, '"accessibility" has to be "public", "protected" or "private", and is "own"'], [{ ...method, method_kind: 'set' }, '"method_kind" has to be "method", "getter" or "setter", and is "set"'],
     [{ ...method, key: 'a' }, '"key" has to be the number of a node, and is "a"'], [{ kind: 'Program', range: [0, 0], body: 1 }, '"body" has to be a list']]);
   for (const [node, wanted] of odd) assert.ok(tree(node).some((it) => it.includes(wanted)), `${tree(node)} | ${wanted}`);
   for (const it of ['public', 'protected', 'private']) assert.ok(!tree({ ...method, accessibility: it }).some((one) => one.includes('accessibility')), it);
   for (const it of ['method', 'getter', 'setter']) assert.ok(!tree({ ...method, method_kind: it }).some((one) => one.includes('method_kind')), it);
+  assert.deepEqual([tree(), tree({ kind: 'Str', range: [0, 0], value: '' }), tree({ kind: 'Str', range: [0, 0], value: '' }, program)],
+    [['module m, the tree has no node'], ['module m, node 0 has to be a Program'], ['module m, node 0 has to be a Program']]);
   for (const kind of [undefined, null, 1]) assert.deepEqual(tree(program, { kind, range: [0, 0] }), ['module m, node 1: "kind" has to be there, a text']);
   assert.deepEqual(tree({ ...program, body: [1] }, { kind: 'Ident', range: [0, 2], sym: ['a', 1] }), ['module m, node 0 (Program): "body" takes an Item, and node 1 is of the kind Ident']);
   assert.deepEqual(tree({ ...program, body: [4] }), ['module m, node 0 (Program): "body" names node 4, and there are 1']);

@@ -160,6 +160,13 @@ test('parameters that compare, divide, or have templates in their values', () =>
   assert.deepEqual(parameters('(a: "it\'s, (", { b, c }: { b: 1, c: 2 }, [d, e]: [1, 2], ...f: 1[])'), ['a: "it\'s, ("', '{ b, c }: { b: 1, c: 2 }', '[d, e]: [1, 2]', '...f: 1[]']);
 });
 
+test('a slash behind a value divides, whatever ends the value, and elsewhere it begins a regular expression', () => {
+  for (const it of ['c', '"s"', '1', '1n', '/r/', '`t`', '`${1}`', 'this', 'true', 'false', 'null', 'c++', 'c--', '(1)', '[1]', '{}', 'c as D<E>']) {
+    assert.deepEqual(parameters(`(a = ${it} / (2 / 1), b = 3)`), [`a = ${it} / (2 / 1)`, 'b = 3'], it);
+  }
+  for (const it of ['', '!', 'typeof ', '(1) + ', 'c ? 1 : ', '[], d = ']) assert.deepEqual(parameters(`(a = ${it}/[(]/)`)?.join(), `a = ${it}/[(]/`.replace(', d', ',d'), it);
+});
+
 test('parentheses around a type are no parameters', () => {
   for (const it of ['= (A)[]', '= (A | B)[]', ': ("a")[]', '= T extends U ? (A) : B']) assert.equal(parameters(it), null, it);
   for (const [text, wanted] of Object.entries({ ': (a) => 1': ['a'], '= new (a: 1) => 2': ['a: 1'], '= { b(a: 1): 2 }': ['a: 1'], 'static <T extends (b: 1) => 2>(a: T): 1': ['a: T'],

@@ -195,6 +195,10 @@ test('a setter without a parameter is a method, and an interface may be the defa
 test('what stands in bodies is left out, and what it imports is noted', () => {
   const made = nodesOf('a.ts', 'function f() { import("./b"); let x: import("./c").X; }', { ...languageOf('a.ts'), ...PLAIN });
   assert.deepEqual(made.references.map((it) => [it.how, it.text]), [['import()', './b'], ['import type', './c']]);
+  // what names no module by a text of its own is none
+  const others = 'function f() { import(b); g("./b"); h.import("./b"); let x: import(5).X, y: import(T).X; import(`./d`); let z: typeof import("./e"); }';
+  const { references } = nodesOf('a.ts', others, { ...languageOf('a.ts'), ...PLAIN });
+  assert.deepEqual(references.map((it) => [it.how, it.text]), [['import()', './d'], ['import type', './e']]);
   assert.equal(made.nodes?.some((it) => it.kind === 'TsImportType'), false);
 });
 

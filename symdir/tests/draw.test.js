@@ -129,6 +129,9 @@ test('arrows: thick for `export *`, by the number of names, thin for names one b
     'n0 -> n1 [penwidth=2.1, label="20 names"', 'n0 -> n2 [penwidth=5.0, label="500 names"', 'n0 -> n3 [penwidth=0.7, color="#999999", arrowhead=empty, label="1 name"',
     'n0 -> n4 [penwidth=0.7, color="#999999", arrowhead=empty, label=""', 'n1 -> x0 [color=red, style=solid, penwidth=1.6];', 'n2 -> x1 [color=red, style=dashed, penwidth=0.8];']);
   assert.deepEqual([...text.matchAll(/style=dashed, color=red, fontcolor=red, label="(.*?)"/g)].map(([, it]) => it), ['./gone', 'no &#60;x&#62;']);
+  // each forty names are a point more, up to five points
+  const wide = (/** @type {number} */ count) => /penwidth=([\d.]+), label/.exec(drawn({ 'a.ts': names(count) }, [['index.ts', 'a.ts', true, names(count)]]))?.[1];
+  assert.deepEqual([40, 120, 132, 136, 140].map(wide), ['2.6', '4.6', '4.9', '5.0', '5.0']);
   // what is told of an arrow is cut at 900 characters
   const [, told] = /edgetooltip="(n0, n1.*?)"/.exec(found[1]) ?? assert.fail();
   assert.equal(told, names(500).join(', ').slice(0, 900));

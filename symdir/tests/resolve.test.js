@@ -103,6 +103,8 @@ test('packages: types, typings, module, main, index, in this order', () => {
   assert.equal(at({ main: 'n.js' }, 'n.js', 'index.js'), 'node_modules/p/n.js');
   assert.equal(at({ main: 'n.js' }, 'n.js', 'n.d.ts'), 'node_modules/p/n.d.ts');
   assert.equal(at({ main: './lib' }, 'lib/index.d.ts'), 'node_modules/p/lib/index.d.ts');
+  assert.equal(at({ main: './lib' }, 'lib/index.js', 'lib/index.d.ts'), 'node_modules/p/lib/index.d.ts');
+  assert.equal(resolved(installed({ main: './lib' }, 'lib/index.js', 'lib/index.d.ts'), 'src/a.js', 'p'), 'node_modules/p/lib/index.js');
   assert.equal(at({}, 'index.d.ts', 'index.js'), 'node_modules/p/index.d.ts');
 });
 

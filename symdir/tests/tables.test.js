@@ -41,6 +41,7 @@ test('of two files of one name the ending decides, for TypeScript and for JavaSc
   const scripts = ['.js', '.jsx', '.mjs', '.cjs'];
   for (const [from, order] of /** @type {const} */ ([['a.ts', [...sources, ...scripts, '.json']], ['a.js', [...scripts, ...sources, '.json']]])) {
     for (const [base, text] of [['b', './b'], ['b/index', './b']]) {
+      for (const it of order) assert.equal(resolved(empty(`${base}${it}`), from, text), `${base}${it}`, from);
       order.forEach((first, i) => order.slice(i + 1).forEach((second) => (
         assert.equal(resolved(empty(`${base}${first}`, `${base}${second}`), from, text), `${base}${first}`, `${from}: ${first} ${second}`))));
     }
@@ -75,6 +76,8 @@ test('the usual module is the first of the list that is there', async () => {
     assert.deepEqual(await entries(files), [`${usual[i]}.ts`]);
   }
   assert.deepEqual(await entries({ 'other.ts': TEXT, 'sub/index.ts': TEXT }), ['other.ts', 'sub/index.ts']);
+  // TypeScript goes before the JavaScript beside it
+  assert.deepEqual(await entries({ 'index.ts': TEXT, 'index.js': TEXT, 'mod.ts': TEXT }), ['index.ts']);
 });
 
 test('which paths are tests and the like', () => {
@@ -100,6 +103,7 @@ test('entries: packages in the directory, private ones alone, and roots without 
   const named = (/** @type {string} */ at, /** @type {object} */ json) => ({ [`${at}/package.json`]: JSON.stringify(json), [`${at}/index.ts`]: TEXT });
   assert.deepEqual(await entries({ ...named('one', { private: true }), ...named('two', { private: true }) }), ['one/index.ts', 'two/index.ts']);
   assert.deepEqual(await entries({ ...named('one', { private: true }), ...named('two', { private: false }) }), ['two/index.ts']);
+  assert.deepEqual(await entries({ 'package.json': '{}', ...named('one', { private: true }), 'z.ts': TEXT }), ['one/index.ts']);
   assert.deepEqual(await entries({ 'one/deno.json': '{}', 'one/mod.ts': TEXT, 'z.ts': TEXT }), ['one/mod.ts']);
   assert.deepEqual(await entries({ 'a.test.ts': TEXT, 'b.ts': 'import "./b";\n' }), ['b.ts']);
   assert.deepEqual(await entries({ 'a.ts': 'import "./b";\n', 'b.ts': 'import "./a";\n' }), ['a.ts', 'b.ts']);
@@ -128,6 +132,7 @@ test('entries of deno.json count beside those of package.json, each key once and
   assert.deepEqual(await entries({ ...files, 'package.json': json({ main: 'b.ts' }), 'deno.json': json({ exports: ['./b.ts'] }) }), ['b.ts']);
   assert.deepEqual(await entries({ ...files, 'deno.json': json({ exports: './a.ts' }), 'deno.jsonc': json({ exports: './b.ts' }) }), ['a.ts']);
   assert.deepEqual(await entries({ ...files, 'deno.json': json({ name: 'x' }) }), ['index.ts']);
+  assert.deepEqual(await entries({ ...files, 'deno.json': json({ exports: null }) }), ['index.ts']);
   assert.deepEqual(await entries({ ...files, 'deno.json': json({ exports: './none.ts' }) }), ['index.ts']);
 });
 
