@@ -6,6 +6,8 @@ import test from 'node:test';
 import { CATEGORIES, FIELDS } from '../lib/check/kinds.js';
 import { kindsOf } from '../lib/check/faults.js';
 import { wordsOf } from '../lib/commands/check.js';
+import { languageOf } from '../lib/language.js';
+import { convert } from '../lib/tree/convert.js';
 import { folderOf, program, symdir } from './helper.js';
 
 const GRAPH = readFileSync(new URL('../../docs/GRAPH.md', import.meta.url), 'utf8');
@@ -81,6 +83,9 @@ test('words for each fault', () => {
     [['module m, the tree has no node'], ['module m, node 0 has to be a Program'], ['module m, node 0 has to be a Program']]);
   for (const kind of [undefined, null, 1]) assert.deepEqual(tree(program, { kind, range: [0, 0] }), ['module m, node 1: "kind" has to be there, a text']);
   assert.deepEqual(tree({ ...program, body: [1] }, { kind: 'Ident', range: [0, 2], sym: ['a', 1] }), ['module m, node 0 (Program): "body" takes an Item, and node 1 is of the kind Ident']);
+  assert.deepEqual(tree({ ...program, body: [1] }, { kind: 'ExprStmt', range: [0, 2], expr: 2 }, { kind: 'Ident', range: [0, 2], sym: ['a', 2 ** 32 - 1] }), []);
+  const query = [{ ...program, body: [1] }, { kind: 'Other', range: [0, 2], children: [2] }, { kind: 'TsImportType', range: [0, 0], arg: 'a', type_args: 3 }, { kind: 'Str', range: [0, 0], value: '' }];
+  assert.deepEqual(tree(...query), ['module m, node 2 (TsImportType): "type_args" takes a TypeArgs, and node 3 is of the kind Str']);
   assert.deepEqual(tree({ ...program, body: [4] }), ['module m, node 0 (Program): "body" names node 4, and there are 1']);
   assert.deepEqual(tree({ ...program, range: [0, 1] }), ['module m, node 0 (Program): the range [0, 1] cuts a character: ranges count bytes of UTF-8, and 1 is within one']);
   assert.deepEqual(tree({ ...program, range: [0, 5] }), ['module m, node 0 (Program): the range [0, 5] ends after the text, which has 2 bytes']);
@@ -92,6 +97,15 @@ test('words for each fault', () => {
   assert.deepEqual(words({ resolutions: [['a', 'b', 'c'], ['a', 'b', 'd']] }), ['two resolutions have the referrer and the text a b']);
   assert.deepEqual(words({ modules: [1, 2].map(() => ({ specifier: 'a', kind: 'external' })) }), ['two modules have the specifier a']);
   assert.deepEqual(words({ modules: null, redirects: null, resolutions: null }), []);
+});
+
+test('the tree of each piece of syntax has no fault', () => {
+  const text = readFileSync(new URL('./texts/syntax.txt', import.meta.url), 'utf8');
+  for (const it of [text, 'class A { constructor(public a = 1, private b: B, c = 1) {} }', 'export { a, b as c }; import d = e.f; import g = require("g");']) {
+    const { tree } = convert('a.ts', it, { ...languageOf('a.ts'), bodies: true, ambient: false });
+    const nodes = JSON.parse(String(Buffer.concat(tree ?? [])));
+    assert.deepEqual(wordsOf(Buffer.from(JSON.stringify({ modules: [{ specifier: 'm', kind: 'esm', text: it, tree: { nodes } }] }))), []);
+  }
 });
 
 test('the command: what symq says, and the words', () => {

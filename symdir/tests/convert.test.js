@@ -9,6 +9,7 @@ import { convert, nodesOf } from '../lib/tree/convert.js';
 import { Files } from '../lib/folder/files.js';
 import { TreeNode, numbered } from '../lib/tree/node.js';
 import { inAscii, parserOf, ts } from '../lib/tree/typescript.js';
+import { KINDS, PRIVATE } from '../lib/kinds.js';
 import { languageOf } from '../lib/language.js';
 import { findTypeScript } from '../lib/typescript.js';
 import { parsedBy } from './parsing.js';
@@ -113,6 +114,31 @@ test('`var` in a function isn\'t that of the function around it, or of its param
     const all = scopes(nodes(`function f() { x; ${it} }`.replace(/^.*namespace.*$/, `namespace M { x; ${it} }`), 'a.ts', { bodies: true }), 'x');
     assert.deepEqual([all.length, all[0], all[1] === 1], [2, 1, false], it);
   }
+});
+
+test('what `import a = N.b` names in a namespace is the namespace\'s, and keys of an interface are in no scope of it', () => {
+  const all = scopes(nodes('namespace M { import a = N.b; const c: a = 1; a; }'), 'a');
+  assert.deepEqual([all.length, new Set(all).size, all[0] === 1], [3, 1, false]);
+  assert.deepEqual(scopes(nodes('namespace M { const b = 1; interface A { b: 1; b(): 1 } }'), 'b').map((it) => it === 1), [false, true, true]);
+});
+
+test('a chain with a question mark is none of names alone', () => {
+  const others = (/** @type {string} */ text) => nodes(text).filter((it) => it.kind === 'Other').map(({ range: [start, end] }) => text.slice(start, end));
+  assert.deepEqual([others('a.b; a["b"];'), others('a?.b;'), others('a?.b.c;'), others('a.b?.["c"];')], [[], ['a?.b'], ['a?.b.c', 'a?.b'], ['a.b?.["c"]']]);
+});
+
+test('a module has `export =` where it stands at the top, and nowhere else', () => {
+  const equals = (/** @type {string} */ text) => nodesOf('a.d.ts', text, { ...languageOf('a.d.ts'), ...PLAIN }).equals;
+  assert.deepEqual(['export = a;', 'export = a.b.c;', 'export = 1;', 'export default a;', 'declare module "m" { export = a; }', 'export as namespace a;'].map(equals),
+    [['a'], ['a', 'b', 'c'], [], null, null, null]);
+});
+
+test('what is private in a class is noted as such', () => {
+  const text = 'class A { private a; protected b; c; public d; private e() {} f() {} private constructor(private g, public h, protected i, readonly j, k) {} private get l() { return 1; } private set l(m) {} static private n; }';
+  const { declarations } = nodesOf('a.ts', text, { ...languageOf('a.ts'), ...PLAIN });
+  const rows = Array.from({ length: declarations.length / 5 }, (_, i) => declarations.slice(5 * i, 5 * i + 5));
+  const found = rows.filter(([, , , , flags]) => (flags & PRIVATE) !== 0).map(([, , kind, name]) => `${KINDS[kind]} ${/^\w+/.exec(text.slice(name))}`);
+  assert.deepEqual(found.sort(), ['constructor private', 'getter l', 'method e', 'parameter g', 'property a', 'property n', 'setter l']);
 });
 
 test('a mapped type needs no type, and no name for its keys', () => {
@@ -221,6 +247,7 @@ test('newer syntax than TypeScript 4.8 knows', () => {
   assert.ok(kinds('using a = b;').includes('UsingDecl'));
   assert.ok(kinds('await using a = b;').includes('UsingDecl'));
   assert.ok(kinds('class C { accessor a = 1; }').includes('AutoAccessor'));
+  assert.deepEqual(kinds('using a = b; class C { d = 1; accessor e = 1; }').filter((it) => /^(ClassProp|AutoAccessor)$/.test(it)), ['ClassProp', 'AutoAccessor']);
   assert.deepEqual(kinds('const a = b satisfies C;').filter((it) => it === 'TsAsExpr' || it === 'Other'), ['Other']);
   assert.ok(kinds('export type * from "./a";').includes('ExportAll'));
   for (const it of ['import a from "./a.json" with { type: "json" };', "import a from './a.json' with { type: 'json' };", 'import * as a from "./a.json" with {\n  type: "json",\n};']) assert.ok(kinds(it).includes('Import'), it);
@@ -255,6 +282,7 @@ test('a syntax error is told with its place', () => {
   const texts = ['import { a } from b;', 'import a from `b`;', 'export * from b;', 'export { a } from b();', 'declare module "m" { export * from b; }'];
   for (const text of texts) {
     const { tree, fault } = convert('a.ts', `\n${text}`, { ...languageOf('a.ts'), ...PLAIN });
+    assert.equal(nodesOf('a.ts', `\n${text}`, { ...languageOf('a.ts'), ...PLAIN }).nodes, null);
     assert.deepEqual([tree, fault], [null, { line: 2, column: text.search(/`b`|b(?=[;()])/) + 1, text: 'String literal expected.' }]);
   }
 });
@@ -289,7 +317,7 @@ test('what a file\'s name says', () => {
   assert.deepEqual(languageOf('a.d.mts'), { language: 'ts', declaration: true });
   assert.deepEqual(languageOf('a.tsx'), { language: 'tsx', declaration: false });
   assert.deepEqual(languageOf('a.cjs'), { language: 'js', declaration: false });
-  assert.deepEqual(languageOf('d.ts'), { language: 'ts', declaration: false });
+  for (const it of ['d.ts', 'a.json', 'a']) assert.deepEqual(languageOf(it), { language: 'ts', declaration: false });
 });
 
 test('TypeScript\'s text in ASCII means the same', () => {

@@ -93,6 +93,13 @@ test('a module that imports itself is a shortest cycle, whichever it is', () => 
   assert.deepEqual([shortestCycle([[1, 0], [0]]), shortestCycle([[1], [0, 1]]), shortestCycle([[1], [2], [0, 2]])], [[0], [1], [2]]);
 });
 
+test('a longer cycle elsewhere isn\'t the shortest, and an edge of a module to itself counts where it is open', () => {
+  // four modules in a circle, and five others in one, with a way there and another back
+  assert.equal(shortestCycle([[1, 4], [2], [3], [0], [5], [6], [7], [8, 1], [4]]).length, 4);
+  assert.equal(shortestCycle([[1], [2], [3], [4], [0, 5], [6], [7], [8, 0], [5]]).length, 4);
+  assert.deepEqual([cyclicParts([[0], [0]]), cyclicParts([[0], [0]], (from, to) => from !== to)], [[[0]], []]);
+});
+
 test('each step of a shortest cycle has its statement, and leads to the next', () => {
   const { cycles } = answer(['cycles', folderOf(FILES)]);
   const [{ shortest, cut }] = cycles;

@@ -69,6 +69,7 @@ test('of members the best are told, and rows go by their own names first', () =>
   for (const it of ['to', 'TO', 'toA', 'goTo']) assert.deepEqual(told('to', row(it, [`${it}#to`])), [it]);
   for (const it of ['tableOf', 'into']) assert.deepEqual(told('to', row(it, [`${it}#to`])), [`${it} ${it}#to`]);
   assert.deepEqual(told('to', row('B', ['B#into']), row('C', ['C#to']), row('into'), row('to'), row('D', ['D#to'])), ['to', 'into', 'C C#to', 'D D#to', 'B B#into']);
+  assert.deepEqual([told('to', row('TO'), row('to')), told('TO', row('to'), row('TO'))], [['to', 'TO'], ['TO', 'to']]);
   assert.deepEqual(told('bar', row('foobar'), row('foo_bar'), row('fooBar')), ['foo_bar', 'fooBar', 'foobar']);
   assert.deepEqual([found('tb'), told('gon', row('get-own-name')), told('b64u', row('base64Url'))], [['TabBarWidget'], ['get-own-name'], ['base64Url']]);
 });
@@ -173,6 +174,7 @@ test('of a picture what isn\'t known is left out', () => {
 
 test('doc comments as HTML', () => {
   assert.equal(docHtml(''), '');
+  assert.equal(docHtml('a - b * c'), '<div class="doc"><p>a - b * c</p></div>');
   assert.equal(docHtml('One `<b>`\ntwo & {@link C}.\n\nThree:\n- a\n- b\n  c'), '<div class="doc"><p>One <code>&#60;b&#62;</code> two &#38; <code>C</code>.</p><p>Three:</p><ul><li>a</li><li>b c</li></ul></div>');
   assert.equal(docHtml('@param a - The *a*.\n@example\nf();\n@deprecated'), '<div class="doc"><dl><dt>@param <code>a</code></dt><dd><p>The *a*.</p></dd><dt>@example</dt><dd><pre><code>f();</code></pre></dd><dt>@deprecated</dt><dd></dd></dl></div>');
   assert.equal(docHtml('#### Notes\nText\n```ts\n@x <y>\n```\nend'), '<div class="doc"><p><strong>Notes</strong></p><p>Text</p><pre><code>@x &#60;y&#62;</code></pre><p>end</p></div>');

@@ -202,6 +202,14 @@ test('packages: those of the folder, by their names', () => {
   assert.equal(resolved({ 'src/a.ts': '', 'src/b.ts': '', 'package.json': JSON_OF({ name: 'own', exports: { './b': './src/b.ts' } }) }, 'src/a.ts', 'own/b'), 'src/b.ts');
 });
 
+test('packages: those of the folder that have one name, and files that only begin as a package.json', () => {
+  const json = JSON_OF({ name: 'p' });
+  for (const inner of ['a', 'z']) {
+    assert.equal(resolved({ 'one/package.json': json, 'one/index.ts': '', [`one/${inner}/package.json`]: json, [`one/${inner}/index.ts`]: '' }, 'a.ts', 'p'), 'one/index.ts', inner);
+  }
+  assert.equal(resolved({ 'one/package.json.old': json, 'one/index.ts': '' }, 'a.ts', 'p'), null);
+});
+
 test('packages: what isn\'t there, and what is only named', () => {
   assert.equal(resolved(['a.ts'], 'a.ts', 'lodash'), null);
   for (const key of ['dependencies', 'devDependencies', 'peerDependencies', 'optionalDependencies']) {

@@ -57,6 +57,28 @@ test('a tree of several pieces, with a text that is longer than one, whose memor
   assert.ok(counted < 1_500_000 && text.length > 7_000_000, `${counted} of ${text.length}`);
 });
 
+test('a deep tree that is made item by item: what can go is left out, and it is too deep where nothing can', () => {
+  const chain = (/** @type {number} */ depth) => {
+    let node = new TreeNode('TsModuleBlock', 0, 1, {});
+    for (let i = 1; i < depth; i++) node = new TreeNode('TsNamespaceDecl', 0, 1, { body: node });
+    return node;
+  };
+  for (const depth of [3998, 3999, 4000, 4095]) {
+    const { text, wanted } = written([chain(depth)]);
+    assert.ok(text === wanted && JSON.parse(text).length === depth + 1, `${depth}`);
+  }
+  const isTooDeep = [4095, 4096].map((depth) => {
+    const made = new TreeText();
+    made.add(chain(depth));
+    return made.isTooDeep;
+  });
+  assert.deepEqual(isTooDeep, [false, true]);
+  let list = new TreeNode('Other', 0, 1, { children: [] });
+  for (let i = 1; i < 5000; i++) list = new TreeNode('Other', 0, 1, { children: [list] });
+  const { text, wanted } = written([list]);
+  assert.ok(text === wanted && JSON.parse(text).length <= 4096);
+});
+
 test('nodes that none was written before are none', () => {
   assert.equal(nodesText([]), '[]');
   assert.equal(String(Buffer.concat(new TreeWriter().pieces())), '');
