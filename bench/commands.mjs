@@ -5,10 +5,11 @@
 // In each round three processes run one after the other: the service; the command without cached trees, but with TypeScript's compiled
 // form, which any earlier run caches; and the command with what the run before cached: the trees and the graph, and of `api --html` and
 // `diff` the page and the surface. Both take the TypeScript in DIR, or the newest that is installed, and read the modules of TypeScript
-// below the directory. Both write what they find to a pipe.
+// below the directory. Both write what they find to a pipe. `diff` compares the directory with a copy, in which an entry exports one more
+// name: neither finds the second one cached where the first isn't.
 // It prints the least times of the rounds, their ratios to the service's, on the clock and of the processors, and how much each found. The
 // last lines are a table: ratios on the clock, cold and cached.
-import { existsSync, mkdtempSync, rmSync } from 'node:fs';
+import { appendFileSync, cpSync, existsSync, mkdtempSync, rmSync } from 'node:fs';
 import os from 'node:os';
 import path from 'node:path';
 import { fileURLToPath } from 'node:url';
@@ -22,7 +23,7 @@ const SERVICE = fileURLToPath(new URL('./service.mjs', import.meta.url));
 const USAGE = 'usage: node bench/commands.mjs [--rounds N] [--symq FILE] [--typescript DIR] [--commands NAME,..] FOLDER..';
 const SCRIPTS = ['--skip', '\\.[mc]?jsx?$'];
 
-/** @typedef {{ entries: string[], spot: string }} Asked what the service is told of a directory: its entries, and the place of a public name */
+/** @typedef {{ entries: string[], spot: string, other: string }} Asked what the service is told of a directory: its entries, the place of a public name, and a copy with one name more */
 /** @typedef {import('./measuring.mjs').Time} Time */
 
 /** @type {Record<string, (folder: string, asked: Asked) => string[]>} the words of each command */
@@ -36,7 +37,7 @@ const COMMANDS = {
   unused: (folder) => ['unused', folder, '--json'],
   cycles: (folder) => ['cycles', folder, '--json'],
   web: (folder) => ['web', folder, '--json'],
-  diff: (folder) => ['diff', folder, folder, '--json'],
+  diff: (folder, { other }) => ['diff', folder, other, '--json'],
 };
 
 /** @param {string[]} words of Node @param {string} cache @returns {{ time: Time, stdout: string }} */
@@ -45,12 +46,20 @@ function timed(words, cache) {
   return timedRun(words, { ...plainEnvironment(), PATH, SYMQ: String(values.symq), XDG_CACHE_HOME: cache }, 1);
 }
 
-/** @param {string} folder @param {string} cache @returns {Asked} */
-function askedOf(folder, cache) {
-  const { entries, names } = JSON.parse(timed([SYMDIR, 'api', folder, '--json', ...SCRIPTS], cache).stdout);
-  const all = names.flatMap((/** @type {any} */ it) => it.defined.filter((/** @type {any} */ one) => !one.by && it.name !== 'default'));
+/** @param {string} folder @param {string} entry in it @param {string} to an empty directory @returns {string} a copy of the directory, in which the entry exports one more name */
+function copyOf(folder, entry, to) {
+  const other = path.join(to, path.basename(folder));
+  cpSync(folder, other, { recursive: true, dereference: true });
+  appendFileSync(path.join(other, entry), '\nexport declare const addedToTheCopy: number;\n');
+  return other;
+}
+
+/** @param {string} folder @param {string} cache @param {string} copies an empty directory @returns {Asked} */
+function askedOf(folder, cache, copies) {
+  const { entries, names: exported } = JSON.parse(timed([SYMDIR, 'api', folder, '--json', ...SCRIPTS], cache).stdout);
+  const all = exported.flatMap((/** @type {any} */ it) => it.defined.filter((/** @type {any} */ one) => !one.by && it.name !== 'default'));
   const { file, line, column } = all[Math.floor(all.length / 2)];
-  return { entries, spot: `${file}:${line}:${column}` };
+  return { entries, spot: `${file}:${line}:${column}`, other: names.includes('diff') ? copyOf(folder, entries[0], copies) : '' };
 }
 
 /** @param {string} name @param {string} stdout of a command @returns {number} how much it found */
@@ -88,8 +97,10 @@ function compareAll(folders, names) {
   const cache = mkdtempSync(path.join(os.tmpdir(), 'commands-'));
   const cells = new Map(names.map((it) => [it, /** @type {string[]} */ ([])]));
   for (const folder of folders) {
-    const asked = askedOf(folder, cache);
+    const copies = mkdtempSync(path.join(os.tmpdir(), 'commands-'));
+    const asked = askedOf(folder, cache, copies);
     for (const name of names) cells.get(name)?.push(compare(folder, name, asked, cache));
+    rmSync(copies, { recursive: true });
   }
   rmSync(cache, { recursive: true });
   console.log(`\n| command | ${folders.map((it) => path.basename(it)).join(' | ')} |\n|---|${folders.map(() => '---|').join('')}`);

@@ -13,12 +13,13 @@ import { edgesBy, referencesTo, surfaceBy, unusedBy } from '../symdir/tests/want
 
 const [command, folder, asked] = process.argv.slice(2);
 /** @type {Asked} */
-const { entries, spot } = JSON.parse(asked);
+const { entries, spot, other } = JSON.parse(asked);
 
-/** @returns {Language} over the modules of TypeScript below the directory */
-function open() {
-  const names = new Files(folder, []).code().filter((it) => !isJavaScript(it)).map((it) => path.relative(folder, it));
-  return new Language(folder, names, { allowJs: false, skipLibCheck: true, baseUrl: path.dirname(folder), paths: { '*': ['*'] } });
+/** @param {string} at the directory, or its copy @returns {Language} over the modules of TypeScript below it */
+function open(at) {
+  const names = new Files(at, []).code().filter((it) => !isJavaScript(it)).map((it) => path.relative(at, it));
+  // what lies beside the directory isn't beside its copy
+  return new Language(at, names, { allowJs: false, skipLibCheck: true, baseUrl: path.dirname(at), paths: { '*': ['*', path.join(path.dirname(folder), '*')] } });
 }
 
 /** @param {Language} language @returns {import('typescript').SourceFile[]} */
@@ -85,9 +86,9 @@ const SEARCHES = {
   cycles: (language) => [...edgesBy(language, true).values()].reduce((sum, it) => sum + it.size, 0),
   web: (language) => webBy(language, entries).size,
   diff: (language) => {
-    const [before, now] = [surfaceBy(language, entries), surfaceBy(open(), entries)];
-    return [...before].filter(([key, { signature }]) => now.get(key)?.signature !== signature).length;
+    const [before, now] = [surfaceBy(language, entries), surfaceBy(open(other), entries)];
+    return [...new Set([...before.keys(), ...now.keys()])].filter((it) => !before.has(it) || before.get(it)?.signature !== now.get(it)?.signature).length;
   },
 };
 
-console.log(SEARCHES[command](open()));
+console.log(SEARCHES[command](open(folder)));

@@ -63,6 +63,12 @@ test('what bench/commands.mjs times finds as much: a syntax error is missing, an
   assert.deepEqual([status, stdout.match(/symdir \d+, service \d+/g)], [0, ['symdir 3, service 3', 'symdir 3, service 3']]);
 });
 
+test('bench/commands.mjs compares a directory with a copy that has one name more, by `diff`', () => {
+  const folder = path.join(TOP, 'examples/shop/new');
+  const { status, stdout } = run(process.execPath, ['bench/commands.mjs', '--rounds', '1', '--commands', 'diff', '--symq', findSymq(undefined), folder]);
+  assert.deepEqual([status, stdout.match(/symdir \d+, service \d+/g)], [0, ['symdir 1, service 1']]);
+});
+
 test('bench/huge.mjs says how it is called', () => {
   const usage = 'usage: node bench/huge.mjs [--megabytes N] [--rounds N] [--kinds KIND,..] [--command]\n';
   const said = (/** @type {string[]} */ ...words) => run(process.execPath, ['bench/huge.mjs', ...words]);

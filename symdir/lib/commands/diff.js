@@ -19,14 +19,14 @@ import { readSurface, withoutMembers } from '../surface/text.js';
 /** @typedef {import('../surface/compare.js').Change} Change */
 /** @typedef {import('../folder/begin.js').Reading} Reading */
 /** @typedef {{ items: Item[], isWhole: boolean }} Surface whether members and signatures are known */
-/** @typedef {{ read: (folder: string) => Reading, asked: import('../folder/begin.js').Asked }} How how a folder is read, and what answers */
+/** @typedef {{ read: (folder: string) => Reading, asked: import('../folder/begin.js').Asked, trees?: import('../folder/begin.js').Trees }} How how a folder is read, and what answers */
 
 /** The longest archive of a revision. */
 const BYTES = 1 << 30;
 
 /** @param {Run} run @param {Reading} reading @param {How} how @returns {Promise<Item[]>} */
-async function surfaceIn(run, reading, { asked }) {
-  const begun = await begin(reading, asked);
+async function surfaceIn(run, reading, { asked, trees }) {
+  const begun = await begin(reading, asked, trees);
   try {
     const folder = await Folder.read(begun, { entry: run.options.entry ?? [] });
     try {
@@ -158,8 +158,9 @@ export async function reportChanges(run, all, items, { same, hint = '' }) {
 export async function diff(run, how) {
   const [old, fresh, ...more] = run.words;
   if (fresh === undefined || more.length > 0) throw new Failure('diff takes OLD and NEW: directories, snapshots or git revisions, as in `symdir diff v1.0.0 .`', 2);
-  const before = await surfaceFor(run, old, how);
-  const now = await surfaceFor(run, fresh, how);
+  const both = { ...how, trees: new Map() };
+  const before = await surfaceFor(run, old, both);
+  const now = await surfaceFor(run, fresh, both);
   const same = `the ${counted(withoutMembers(now.items).length, 'public name')} and their members are the same`;
   return reportChanges(run, await changesBetween(before, now), now.items, { same });
 }

@@ -10,6 +10,7 @@ import { Kept, madeOf } from './kept.js';
 /** @typedef {import('./pool.js').Pool} Pool */
 /** @typedef {import('../symq.js').Symq} Symq */
 /** @typedef {import('./results.js').Results} Results */
+/** @typedef {import('./kept.js').Parsed} Parsed */
 /** @typedef {import('../typescript.js').Found} Found */
 
 /**
@@ -33,6 +34,8 @@ import { Kept, madeOf } from './kept.js';
  * @property {string} [result] what of the answer is kept, in a word
  */
 
+/** @typedef {Map<string, Map<string, Parsed>>} Trees of folders that are read one after the other: by how they are made, the last one of each specifier */
+
 /**
  * @typedef {object} Begun
  * @property {Reading} reading
@@ -42,6 +45,7 @@ import { Kept, madeOf } from './kept.js';
  * @property {Asked | null} asked null where nobody is
  * @property {Symq | null} last what answers on the graph that was asked last
  * @property {Results | null} results what is kept of answers
+ * @property {Map<string, Parsed>} [others] trees of folders before, by specifier, which is given those of this one
  */
 
 /** @param {Reading} reading @param {Found} typescript @returns {import('../tree/which.js').Which} */
@@ -71,8 +75,14 @@ async function resultsOf(kept, asked) {
   return kept && asked?.result ? (await import('./results.js')).Results.of(kept, asked) : null;
 }
 
-/** @param {Reading} reading @param {Asked | null} asked null where nobody is @returns {Promise<Begun>} */
-export async function begin(reading, asked) {
+/** @param {Trees | undefined} trees @param {string} how they are made @returns {Map<string, Parsed> | undefined} */
+function othersOf(trees, how) {
+  if (trees && !trees.has(how)) trees.set(how, new Map());
+  return trees?.get(how);
+}
+
+/** @param {Reading} reading @param {Asked | null} asked null where nobody is @param {Trees} [trees] of folders before @returns {Promise<Begun>} */
+export async function begin(reading, asked, trees) {
   const { folder, skip, bodies, ambient, cache, javascript } = reading;
   const typescript = reading.typescript ?? findTypeScript(folder);
   useTypeScript(whichOf(reading, typescript));
@@ -82,9 +92,11 @@ export async function begin(reading, asked) {
   let made;
   const pool = () => (made ??= poolOf(reading, typescript));
   const fresh = files.code().filter((it) => !kept?.modules.has(it) && (javascript || !isJavaScript(it)));
-  if (fresh.length > 0) (await pool()).begin(fresh);
+  const others = othersOf(trees, JSON.stringify([typescript.version, bodies, ambient]));
+  // files of a folder are mostly as they were in another one before it
+  if (fresh.length > 0 && !others?.size) (await pool()).begin(fresh);
   else if (!reading.typescript) optimize(true);
   const results = await resultsOf(kept, asked);
   const last = fresh.length > 0 ? null : await lastOf(kept, asked, results);
-  return { reading, files, kept, pool, asked, last, results };
+  return { reading, files, kept, pool, asked, last, results, others };
 }

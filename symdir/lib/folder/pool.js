@@ -121,7 +121,7 @@ export class Pool {
     this.keep ??= storeCompiled;
     /** @type {Job[]} */
     const deep = [];
-    let heard = performance.now();
+    let heard = Date.now();
     for (let job = take(queue); job; job = take(queue)) {
       try {
         done(job.file, parseFile(job, this.how), null);
@@ -129,9 +129,9 @@ export class Pool {
         if (error instanceof RangeError) deep.push(job);
         else done(job.file, null, reasonOf(error));
       }
-      if (performance.now() - heard < UNHEARD) continue;
+      if (Date.now() - heard < UNHEARD) continue;
       await setImmediate();
-      heard = performance.now();
+      heard = Date.now();
     }
     return deep;
   }

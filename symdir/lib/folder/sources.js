@@ -34,12 +34,13 @@ function isPath(text) {
 
 export class Sources {
   /** @param {import('./begin.js').Begun} begun */
-  constructor({ reading, files, kept, pool }) {
+  constructor({ reading, files, kept, pool, others }) {
     this.reading = reading;
     this.folder = reading.folder;
     this.files = files;
     this.kept = kept;
     this.parsers = pool;
+    this.others = others;
     this.configs = new Configs(this.files);
     this.resolver = new Resolver(this.files, this.configs);
     /** @type {Map<string, Module>} by specifier */
@@ -96,6 +97,7 @@ export class Sources {
       await this.pool?.close();
       throw error;
     }
+    for (const { specifier, parsed } of this.modules.values()) this.others?.set(specifier, parsed);
     const isOther = isNew || this.kept?.modules.size !== this.modules.size;
     this.keep = async (graph = this.kept?.graph ?? '') => {
       const isKept = !isOther && graph === this.kept?.graph;
@@ -121,15 +123,28 @@ export class Sources {
     return [...unread, ...this.unparsed().map(({ file, line, column, text }) => `${file}:${line}:${column}: ${text}`)];
   }
 
-  /** @param {string[]} wanted files @returns {Promise<number>} how many were parsed */
+  /** @param {string} file @param {string} specifier @returns {{ parsed: Parsed, isNew: boolean } | null} its tree, if it is kept or another folder has it, which is new then */
+  known(file, specifier) {
+    const other = this.others?.get(specifier);
+    if (!other && !this.kept?.modules.has(file)) return null;
+    const hash = this.hash(file);
+    const parsed = this.kept?.get(file, hash);
+    if (parsed) return { parsed, isNew: false };
+    return other?.hash === hash ? { parsed: other, isNew: true } : null;
+  }
+
+  /** @param {string[]} wanted files @returns {Promise<number>} of how many no tree was kept */
   async parse(wanted) {
     /** @type {Map<string, Parsed>} */
     const found = new Map();
     const jobs = [];
+    let taken = 0;
     for (const file of wanted) {
-      const known = this.kept?.modules.has(file) ? this.kept.get(file, this.hash(file)) : null;
-      if (known) found.set(file, known);
-      else jobs.push({ file, specifier: this.specifierOf(file) });
+      const specifier = this.specifierOf(file);
+      const known = this.known(file, specifier);
+      if (known) found.set(file, known.parsed);
+      else jobs.push({ file, specifier });
+      if (known?.isNew) taken++;
     }
     let done = 0;
     if (jobs.length > 0) {
@@ -150,7 +165,7 @@ export class Sources {
       else this.external.add(specifier);
       if (parsed?.isScript) for (const it of parsed.modules) this.ambient.add(it);
     }
-    return jobs.length;
+    return jobs.length + taken;
   }
 
   /** @param {Module} module @param {Open} open @returns {string[]} the texts of its `import a = require(..)` that stand for modules whose names `export` tells */

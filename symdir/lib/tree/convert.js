@@ -22,6 +22,7 @@ import { wellFormed } from './offsets.js';
  * @typedef {object} Converted
  * @property {string} text well formed
  * @property {Buffer[] | null} tree the JSON text of the tree's nodes, in pieces; null where there is none
+ * @property {() => void} free has the memory of these used for another tree, once they are copied
  * @property {number} nodes how many there are
  * @property {Fault | null} fault why there is none
  * @property {import('./converter.js').Reference[]} references
@@ -171,7 +172,7 @@ export function nodesOf(name, source, options) {
 
 /** @param {string} text @param {Fault | null} fault @returns {Converted} what is known where there is no tree */
 export function withoutTree(text, fault) {
-  return { text: wellFormed(text), tree: null, nodes: 0, fault, ...NOTHING };
+  return { text: wellFormed(text), tree: null, free: () => {}, nodes: 0, fault, ...NOTHING };
 }
 
 /**
@@ -189,5 +190,5 @@ export function convert(name, source, options) {
   items(c, (it) => made.add(it));
   const fault = faultOf(c, made.isTooDeep);
   if (c.unnamed !== null) return withoutTree(text, fault);
-  return { text, tree: fault ? null : made.whole(program(c)), nodes: fault ? 0 : made.count, fault, ...notedBy(c) };
+  return { text, tree: fault ? null : made.whole(program(c)), free: () => made.free(), nodes: fault ? 0 : made.count, fault, ...notedBy(c) };
 }

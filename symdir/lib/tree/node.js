@@ -157,4 +157,9 @@ export class TreeText {
     const start = `[{"kind":"Program","range":[${program.start},${program.end}]${body}}`;
     return [Buffer.from(start), ...this.writer.pieces(), Buffer.from(']')];
   }
+
+  /** Has the memory of the text used for another tree, once it is copied. */
+  free() {
+    this.writer.free();
+  }
 }

@@ -100,11 +100,23 @@ function unaccounted(count) {
   return Buffer.from(new SharedArrayBuffer(count));
 }
 
+/** @type {Buffer | null} the first piece of a tree that was copied: V8 counts its memory, and would collect garbage early for one of each file */
+let spare = null;
+
+/** @param {number} count of bytes @returns {Buffer} memory for the first piece of a tree, with so many bytes at least */
+function firstPiece(count) {
+  const found = spare;
+  if (found === null || found.length < count) return Buffer.allocUnsafeSlow(Math.max(PIECE, count));
+  spare = null;
+  return found;
+}
+
 export class TreeWriter {
   constructor() {
     this.bytes = Buffer.allocUnsafeSlow(0);
     this.view = new DataView(this.bytes.buffer);
     this.at = 0;
+    this.first = this.bytes;
     /** @type {Buffer[]} */
     this.full = [];
     /** @type {TreeNode[]} what open nodes hold, as far as `count` */
@@ -117,11 +129,17 @@ export class TreeWriter {
     return [...this.full, this.bytes.subarray(0, this.at)];
   }
 
+  /** Has the first piece's memory used for the next tree: what was written is copied, and nothing more is. */
+  free() {
+    if (this.first.length >= PIECE) spare = this.first;
+  }
+
   /** @param {number} count of bytes that are written next */
   room(count) {
     if (this.at + count <= this.bytes.length) return;
     this.full.push(this.bytes.subarray(0, this.at));
-    this.bytes = this.full.length === 1 ? Buffer.allocUnsafeSlow(Math.max(PIECE, count)) : unaccounted(Math.max(PIECE, count));
+    if (this.full.length === 1) this.bytes = this.first = firstPiece(count);
+    else this.bytes = unaccounted(Math.max(PIECE, count));
     this.view = new DataView(this.bytes.buffer);
     this.at = 0;
   }
