@@ -1,10 +1,15 @@
 import assert from 'node:assert/strict';
 import { spawnSync } from 'node:child_process';
-import { mkdirSync, readdirSync, renameSync, rmSync, writeFileSync } from 'node:fs';
+import { mkdirSync, readdirSync, renameSync, rmSync, statSync, symlinkSync, writeFileSync } from 'node:fs';
 import path from 'node:path';
 import test from 'node:test';
 
+import { Configs } from '../lib/folder/configs.js';
+import { Files } from '../lib/folder/files.js';
+import { Resolver } from '../lib/folder/resolve.js';
 import { differenceOf, differentLines } from '../lib/watch/difference.js';
+import { Watch } from '../lib/watch/watch.js';
+import { Watched } from '../lib/watch/watchers.js';
 import { folderOf, symdir } from './helper.js';
 import { watched } from './watching.js';
 
@@ -201,4 +206,56 @@ test('what differs in lines: equal ones under different heads differ, and spaces
   assert.deepEqual(differentLines(before, ['a.ts: 1 public name', '  x    const', 'b.ts: 2 public names', '  x  const', '  y  const']), [
     '- b.ts: 1 public name', '+ b.ts: 2 public names', '+   x  const']);
   assert.deepEqual(differentLines(before, ['a.ts: 1 public name', '  z  const', ...before.slice(2)]), ['  a.ts: 1 public name', '-   x  const', '+   z  const']);
+});
+
+test('a file is read again only where its size or its times differ, or were those of the last moments', (t) => {
+  const folder = folderOf({ 'a.ts': 'export const a = 1;\n' });
+  const file = path.join(folder, 'a.ts');
+  const hashes = new Map();
+  const hash = () => new Watched(folder, [], hashes).hash(file);
+  const known = new Files(folder, []).hash(file);
+  assert.deepEqual([hash(), hashes.size], [known, 0]);
+  const later = Date.now() + 10_000;
+  const clock = t.mock.method(Date, 'now', () => later);
+  assert.deepEqual([hash(), hashes.get(file).hash], [known, known]);
+  hashes.get(file).hash = 'that of before';
+  assert.equal(hash(), 'that of before');
+  clock.mock.restore();
+  const { mtimeMs } = statSync(file);
+  while (statSync(file).mtimeMs === mtimeMs) writeFileSync(file, 'export const b = 1;\n');
+  assert.deepEqual([hash(), hashes.size], [new Files(folder, []).hash(file), 0]);
+  rmSync(file);
+  assert.deepEqual([hash(), hashes.size], ['', 0]);
+});
+
+test('imports are resolved again where a file came or went or a configuration changed, and not where a module alone did', () => {
+  const folder = folderOf({ 'index.ts': 'export * from "./a";\n', 'a.ts': '', 'package.json': '{}', 'tsconfig.json': '{}', 'far/b.ts': '' });
+  const watch = new Watch(/** @type {any} */ ({ folder, options: () => ({}) }));
+  const before = new Watched(folder, []);
+  const resolver = new Resolver(before, new Configs(before));
+  for (const it of ['./a', 'none']) resolver.resolve(path.join(folder, 'index.ts'), it);
+  const isAgain = (/** @type {string[]} */ ...heard) => {
+    watch.resolved = { files: before, resolver };
+    const files = new Watched(folder, []);
+    const found = watch.resolverFor(files, heard.map((it) => path.join(folder, it)));
+    assert.equal(found !== undefined, files.looked === before.looked);
+    return found !== resolver;
+  };
+  try {
+    assert.deepEqual([isAgain('a.ts'), isAgain('a.ts', '.a.ts.swp', 'a.ts~'), isAgain('a.ts', 'index.ts')], [false, false, false]);
+    for (const it of ['package.json', 'tsconfig.json', 'far/package.json', 'node_modules', 'far', '.', '../x.ts']) assert.equal(isAgain('a.ts', it), !it.startsWith('far/'), it);
+    resolver.resolve(path.join(folder, 'far/b.ts'), 'none');
+    assert.equal(isAgain('far/package.json'), true);
+    symlinkSync(path.join(folder, 'far'), path.join(folder, 'near'));
+    assert.equal(isAgain('a.ts'), true);
+    rmSync(path.join(folder, 'near'));
+    writeFileSync(path.join(folder, 'c.ts'), '');
+    assert.equal(isAgain('a.ts'), true);
+    rmSync(path.join(folder, 'a.ts'));
+    assert.equal(isAgain('c.ts'), true);
+    watch.resolved = null;
+    assert.equal(watch.resolverFor(new Watched(folder, []), []), undefined);
+  } finally {
+    watch.temporary.close();
+  }
 });

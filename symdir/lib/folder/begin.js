@@ -46,6 +46,7 @@ import { Kept, madeOf } from './kept.js';
  * @property {Symq | null} last what answers on the graph that was asked last
  * @property {Results | null} results what is kept of answers
  * @property {Map<string, Parsed>} [others] trees of folders before, by specifier, which is given those of this one
+ * @property {import('./resolve.js').Resolver} [resolver] which resolved the imports of these files before
  */
 
 /** @param {Reading} reading @param {Found} typescript @returns {import('../tree/which.js').Which} */

@@ -1,9 +1,10 @@
 // The files below a folder, as paths with slashes.
-import { readdirSync, realpathSync, statSync } from 'node:fs';
+import { readFileSync, readdirSync, realpathSync, statSync } from 'node:fs';
 import path from 'node:path';
 
 import { Failure, fileFailure } from '../failure.js';
 import { isCode } from '../language.js';
+import { hashOf } from './kept.js';
 
 /** @typedef {import('node:fs').Dirent} Dirent */
 
@@ -136,6 +137,15 @@ export class Files {
   has(file) {
     if (!this.holds(file)) return isFile(file);
     return this.all.has(file) || (this.links.some((it) => file.startsWith(`${it}/`)) && isFile(file));
+  }
+
+  /** @param {string} file @returns {string} of its bytes; empty where it can't be read */
+  hash(file) {
+    try {
+      return hashOf(readFileSync(file));
+    } catch {
+      return '';
+    }
   }
 
   /** @returns {string} why there is no module, to be told */

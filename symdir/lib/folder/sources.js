@@ -1,12 +1,10 @@
 // A folder of sources: its modules, parsed, and what their imports stand for.
-import { readFileSync } from 'node:fs';
 import path from 'node:path';
 
 import { isCode, isJavaScript } from '../language.js';
 import { counted } from '../output.js';
 import { Configs } from './configs.js';
 import { sourcesOf } from './endings.js';
-import { hashOf } from './kept.js';
 import { packageFile } from './packages.js';
 import { Open } from './open.js';
 import { Resolver } from './resolve.js';
@@ -34,15 +32,15 @@ function isPath(text) {
 
 export class Sources {
   /** @param {import('./begin.js').Begun} begun */
-  constructor({ reading, files, kept, pool, others }) {
+  constructor({ reading, files, kept, pool, others, resolver }) {
     this.reading = reading;
     this.folder = reading.folder;
     this.files = files;
     this.kept = kept;
     this.parsers = pool;
     this.others = others;
-    this.configs = new Configs(this.files);
-    this.resolver = new Resolver(this.files, this.configs);
+    this.resolver = resolver ?? new Resolver(files, new Configs(files));
+    this.configs = this.resolver.configs;
     /** @type {Map<string, Module>} by specifier */
     this.modules = new Map();
     /** @type {Map<string, Map<string, string>>} by specifier and text */
@@ -127,7 +125,7 @@ export class Sources {
   known(file, specifier) {
     const other = this.others?.get(specifier);
     if (!other && !this.kept?.modules.has(file)) return null;
-    const hash = this.hash(file);
+    const hash = this.files.hash(file);
     const parsed = this.kept?.get(file, hash);
     if (parsed) return { parsed, isNew: false };
     return other?.hash === hash ? { parsed: other, isNew: true } : null;
@@ -189,15 +187,6 @@ export class Sources {
       if (module && made) module.parsed = made;
     });
     return true;
-  }
-
-  /** @param {string} file @returns {string} */
-  hash(file) {
-    try {
-      return hashOf(readFileSync(file));
-    } catch {
-      return '';
-    }
   }
 
   /** @param {string[]} files whose references are resolved @returns {string[]} files that they lead to and that aren't read yet */

@@ -2,28 +2,30 @@
 
 /** @typedef {{ removed: Record<string, unknown[]>, added: Record<string, unknown[]> }} Difference without lists that stayed the same */
 
-/** @param {unknown[]} items @param {unknown[]} others @returns {unknown[]} those that the others lack, each as often as it is more often here */
-function lacking(items, others) {
+/** @typedef {{ items: unknown[], keys: string[] }} List with a text of each item */
+
+/** @param {List} list @param {List} others @returns {unknown[]} the items that the others lack, each as often as it is more often here */
+function lacking({ items, keys }, others) {
   /** @type {Map<string, number>} */
   const counts = new Map();
-  for (const it of others) counts.set(JSON.stringify(it), (counts.get(JSON.stringify(it)) ?? 0) + 1);
-  return items.filter((it) => {
-    const key = JSON.stringify(it);
-    const left = counts.get(key) ?? 0;
-    counts.set(key, left - 1);
+  for (const it of others.keys) counts.set(it, (counts.get(it) ?? 0) + 1);
+  return items.filter((_, i) => {
+    const left = counts.get(keys[i]) ?? 0;
+    counts.set(keys[i], left - 1);
     return left <= 0;
   });
 }
 
-/** @param {unknown} value @returns {unknown[]} the items of a list; what is none as its only one, and nothing as none */
-function itemsOf(value) {
-  return value === undefined ? [] : [value].flat();
+/** @param {unknown} value @returns {List} what is no list as its only item, and nothing as none */
+function listOf(value) {
+  const items = value === undefined ? [] : [value].flat();
+  return { items, keys: items.map((it) => JSON.stringify(it)) };
 }
 
 /** @param {Record<string, unknown>} before @param {Record<string, unknown>} now @returns {Difference} of answers of `--json` */
 export function differenceOf(before, now) {
   const keys = [...new Set([...Object.keys(before), ...Object.keys(now)])];
-  const all = keys.map((it) => ({ it, old: itemsOf(before[it]), fresh: itemsOf(now[it]) }));
+  const all = keys.map((it) => ({ it, old: listOf(before[it]), fresh: listOf(now[it]) }));
   const withItems = (/** @type {[string, unknown[]][]} */ rows) => Object.fromEntries(rows.filter(([, items]) => items.length > 0));
   return {
     removed: withItems(all.map(({ it, old, fresh }) => [it, lacking(old, fresh)])),

@@ -3,7 +3,7 @@ import path from 'node:path';
 
 import { Failure, failureOf } from '../failure.js';
 import { begin, poolOf } from '../folder/begin.js';
-import { checkFolder } from '../folder/files.js';
+import { checkFolder, statsOf } from '../folder/files.js';
 import { Folder } from '../folder/folder.js';
 import { shortOf } from '../folder/specifier.js';
 import { Temporary } from '../folder/temporary.js';
@@ -19,6 +19,7 @@ import { Watched, Watchers } from './watchers.js';
 /** @typedef {import('../folder/begin.js').Reading} Reading */
 /** @typedef {import('../folder/kept.js').Kept} Kept */
 /** @typedef {import('../folder/kept.js').Parsed} Parsed */
+/** @typedef {import('../folder/resolve.js').Resolver} Resolver */
 /** @typedef {import('../folder/sources.js').Sources} Sources */
 
 /** So many milliseconds after a change what else is written at once is there. */
@@ -62,6 +63,10 @@ export class Watch {
     this.trees = new Map();
     /** How they were made, as a text. */
     this.how = '';
+    /** @type {import('./watchers.js').Hashes} */
+    this.hashes = new Map();
+    /** @type {{ files: Watched, resolver: Resolver } | null} what the imports of the last reading were resolved by */
+    this.resolved = null;
     /** @type {Answer | null} the last one */
     this.last = null;
     /** The failure that is told, if the last run was one. */
@@ -192,7 +197,7 @@ export class Watch {
   async again(heard) {
     const options = this.options();
     const reading = this.asked.reading(options);
-    const folder = await this.read(reading, options);
+    const folder = await this.read(reading, options, heard);
     const answers = /** @type {Answers} */ (this.answers);
     const changed = answers.turnTo(folder.sources);
     let answer = await this.answerWith(options, folder, answers);
@@ -213,11 +218,24 @@ export class Watch {
     });
   }
 
-  /** @param {Reading} reading @param {Record<string, any>} options @returns {Promise<Folder>} of the sources as they are now */
-  async read(reading, options) {
+  /** @param {Watched} files @param {string[]} heard @returns {Resolver | undefined} that of the last reading, where no file came or went since and no configuration changed */
+  resolverFor(files, heard) {
+    if (!this.resolved) return undefined;
+    const { files: before, resolver } = this.resolved;
+    // what isn't there and wasn't listed is an editor's, but for a directory of packages
+    const isPlain = (/** @type {string} */ it) => files.holds(it) && !resolver.configs.read.has(it) && (files.all.has(it) || (path.basename(it) !== 'node_modules' && statsOf(it) === null));
+    if (!heard.every(isPlain) || !files.lists(before)) return undefined;
+    files.looked = before.looked;
+    return resolver;
+  }
+
+  /** @param {Reading} reading @param {Record<string, any>} options @param {string[]} heard @returns {Promise<Folder>} of the sources as they are now */
+  async read(reading, options, heard) {
     const typescript = findTypeScript(reading.folder);
     if (typescript.file !== this.typescript?.file || typescript.version !== this.typescript.version) throw new Failure('another TypeScript is installed: start again');
-    const files = new Watched(reading.folder, reading.skip);
+    const files = new Watched(reading.folder, reading.skip, this.hashes);
+    const resolver = this.resolverFor(files, heard);
+    this.resolved = null;
     /** @type {Promise<import('../folder/pool.js').Pool> | undefined} */
     let made;
     // the parser's compiled form was kept by the first run
@@ -225,8 +243,9 @@ export class Watch {
     /** @type {Folder | undefined} */
     let folder;
     try {
-      folder = await Folder.read({ reading, files, kept: this.kept(reading), pool, asked: null, last: null, results: null }, { entry: options.entry ?? [] });
+      folder = await Folder.read({ reading, files, kept: this.kept(reading), pool, asked: null, last: null, results: null, resolver }, { entry: options.entry ?? [] });
       this.keep(reading, folder.sources);
+      this.resolved = { files, resolver: folder.sources.resolver };
       return folder;
     } finally {
       await folder?.sources.pool?.close();

@@ -1,12 +1,32 @@
 // Watches directories: those of the sources, and those outside where files were looked for.
-import { watch } from 'node:fs';
+import { statSync, watch } from 'node:fs';
 import path from 'node:path';
 
 import { Failure } from '../failure.js';
 import { Files, statsOf, withSlashes } from '../folder/files.js';
 
+/** What is written within so many milliseconds may have the same times. */
+const SETTLED = 3000;
+
+/** @typedef {Map<string, { state: string, hash: string }>} Hashes of files, with what told each from a later state of it */
+
+/** @param {string} file @returns {import('node:fs').BigIntStats | null} null where it isn't there, or can't be looked at */
+function exactStatsOf(file) {
+  try {
+    return statSync(file, { bigint: true, throwIfNoEntry: false }) ?? null;
+  } catch {
+    return null;
+  }
+}
+
 /** The files of a directory, which note what was looked for and where. */
 export class Watched extends Files {
+  /** @param {string} folder @param {RegExp[]} skip @param {Hashes} [hashes] from before, which is given further ones */
+  constructor(folder, skip, hashes = new Map()) {
+    super(folder, skip);
+    this.hashes = hashes;
+  }
+
   /** @type {Set<string>} directories that are listed */
   folders = new Set();
   /** @type {Set<string>} files outside that were looked for, whether they are there or not */
@@ -22,6 +42,23 @@ export class Watched extends Files {
   has(file) {
     if (!this.holds(file)) this.looked.add(file);
     return super.has(file);
+  }
+
+  /** @param {string} file @returns {string} as it was, where its size and times are */
+  hash(file) {
+    const stats = exactStatsOf(file);
+    const state = stats === null ? '' : [stats.dev, stats.ino, stats.size, stats.mtimeNs, stats.ctimeNs].join();
+    const known = this.hashes.get(file);
+    if (known && known.state === state) return known.hash;
+    const hash = super.hash(file);
+    if (stats !== null && Date.now() - Number(stats.ctimeMs) > SETTLED) this.hashes.set(file, { state, hash });
+    else this.hashes.delete(file);
+    return hash;
+  }
+
+  /** @param {Watched} other @returns {boolean} whether both list the same */
+  lists({ all, links }) {
+    return all.size === this.all.size && links.join('\n') === this.links.join('\n') && [...all].every((it) => this.all.has(it));
   }
 }
 
