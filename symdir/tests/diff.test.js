@@ -1,10 +1,12 @@
 import assert from 'node:assert/strict';
 import { spawnSync } from 'node:child_process';
-import { mkdirSync, symlinkSync, writeFileSync } from 'node:fs';
+import { mkdirSync, readdirSync, symlinkSync, writeFileSync } from 'node:fs';
 import path from 'node:path';
 import test from 'node:test';
 
 import { answer, folderOf, symdir } from './helper.js';
+import { begin } from '../lib/folder/begin.js';
+import { Sources } from '../lib/folder/sources.js';
 import { parametersOf } from '../lib/surface/parameters.js';
 import { oneLine } from '../lib/surface/signature.js';
 
@@ -233,4 +235,43 @@ test('a snapshot that is none, or can\'t be read, is told as such', () => {
   // it is there, and a read of it fails for whoever reads
   symlinkSync('/proc/self/mem', path.join(folder, 'mem.txt'));
   assert.deepEqual(said('mem.txt', '.'), { status: 3, stdout: '', stderr: 'symdir: mem.txt can\'t be read (EIO)\n' });
+});
+
+const READING = { skip: [], bodies: false, ambient: true, javascript: true, packages: false, cache: false, progress: () => {} };
+
+/** @param {string} folder @param {import('../lib/folder/begin.js').Trees} trees of folders before @param {object} [how] @returns {Promise<{ parsed: string[], texts: Record<string, string> }>} the files that are parsed, and the trees of all */
+async function read(folder, trees, how = {}) {
+  const begun = await begin({ ...READING, folder, ...how }, null, trees);
+  /** @type {string[]} */
+  const parsed = [];
+  const pool = await begun.pool();
+  const parse = pool.parse.bind(pool);
+  pool.parse = (jobs, done) => {
+    parsed.push(...jobs.map((it) => path.relative(folder, it.file)));
+    return parse(jobs, done);
+  };
+  const sources = new Sources(begun);
+  await sources.read();
+  await sources.keep();
+  return { parsed, texts: Object.fromEntries([...sources.modules].map(([it, { parsed: { text } }]) => [it, text.toString()])) };
+}
+
+test('trees of files that both sides have alike are made once', async () => {
+  const old = { 'index.ts': 'export * from "./a";\nimport b = require("./b");\nexport { b };\n', 'a.ts': 'export const a = 1;\n', 'b.ts': 'export const c = 1;\n', 'd.js': 'export const d = 1;\n' };
+  const [before, now] = [old, { ...old, 'a.ts': 'export const a = 2;\n', 'b.ts': 'const c = 1;\nexport = c;\n', 'd.ts': old['d.js'] }].map(folderOf);
+  const trees = new Map();
+  assert.deepEqual((await read(before, trees)).parsed.sort(), ['a.ts', 'b.ts', 'd.js', 'index.ts', 'index.ts']);
+  const { parsed, texts } = await read(now, trees);
+  // what an import stands for may differ where its file doesn't
+  assert.deepEqual(parsed.sort(), ['a.ts', 'b.ts', 'd.ts', 'index.ts']);
+  assert.deepEqual(texts, (await read(now, new Map())).texts);
+  assert.deepEqual((await read(now, trees)).parsed, []);
+  for (const how of [{ bodies: true }, { ambient: false }]) assert.equal((await read(now, trees, how)).parsed.length, 5);
+});
+
+test('trees of files that the other side has alike are cached for each side', () => {
+  const [cache, old, now] = [folderOf({}), folderOf({ 'index.ts': 'export const a = 1;\n' }), folderOf({ 'index.ts': 'export const a = 1;\n' })];
+  const { status, stdout } = symdir(['diff', old, now], { env: { XDG_CACHE_HOME: cache } });
+  assert.deepEqual([status, stdout], [0, 'the 1 public name and their members are the same\n']);
+  assert.equal(readdirSync(path.join(cache, 'symdir')).filter((it) => it.endsWith('.trees')).length, 2);
 });

@@ -83,3 +83,23 @@ test('nodes that none was written before are none', () => {
   assert.equal(nodesText([]), '[]');
   assert.equal(String(Buffer.concat(new TreeWriter().pieces())), '');
 });
+
+test('the memory of a tree that is copied is used for the next one, and that of another isn\'t', () => {
+  const made = (/** @type {string} */ name) => {
+    const text = new TreeText();
+    text.add(new TreeNode('Ident', 1, 2, { sym: [name, 0] }));
+    return { text, pieces: text.whole(new TreeNode('Program', 0, 1, {})) };
+  };
+  const memory = (/** @type {{ pieces: Buffer[] }} */ { pieces }) => pieces.map((it) => it.buffer).find((it) => it.byteLength >= 1 << 20);
+  const first = made('first');
+  const before = String(Buffer.concat(first.pieces));
+  const other = made('other');
+  assert.ok(memory(first) && memory(other) !== memory(first));
+  assert.equal(String(Buffer.concat(first.pieces)), before);
+  first.text.free();
+  const next = made('after');
+  assert.equal(memory(next), memory(first));
+  assert.equal(String(Buffer.concat(next.pieces)), before.replace('first', 'after'));
+  const last = made('again');
+  assert.ok(memory(last) !== memory(next));
+});

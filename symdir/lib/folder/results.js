@@ -38,10 +38,13 @@ function filesIn(folder) {
   });
 }
 
-/** @returns {string} changes with this package */
+/** @type {string | undefined} */
+let made;
+
+/** @returns {string} changes with this package, as it was when this was first asked */
 function maker() {
-  const own = filesIn(fileURLToPath(new URL('../', import.meta.url))).sort();
-  return hashOf(own.map((it) => `${it}\n${readFileSync(it, 'latin1')}`).join('\n'));
+  const own = made === undefined ? filesIn(fileURLToPath(new URL('../', import.meta.url))).sort() : [];
+  return (made ??= hashOf(own.map((it) => `${it}\n${readFileSync(it, 'latin1')}`).join('\n')));
 }
 
 export class Results {

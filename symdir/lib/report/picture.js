@@ -9,13 +9,18 @@ import { escaped } from './escape.js';
 /** @typedef {import('../folder/folder.js').Folder} Folder */
 
 /** Elements and attributes that Graphviz writes. Whatever else stands there is left out. */
-const ELEMENTS = /^(svg|g|polygon|path|polyline|ellipse|text|title|a)$/;
-const ATTRIBUTES = /^(id|class|transform|fill|stroke|stroke-width|stroke-dasharray|points|d|cx|cy|rx|ry|x|y|text-anchor|font-family|font-size|font-weight|width|height|viewBox|xlink:href|xlink:title)$/;
+const ELEMENTS = new Set(['svg', 'g', 'polygon', 'path', 'polyline', 'ellipse', 'text', 'title', 'a']);
+const ATTRIBUTES = new Set([
+  'id', 'class', 'transform', 'fill', 'stroke', 'stroke-width', 'stroke-dasharray', 'points', 'd', 'cx', 'cy', 'rx', 'ry', 'x', 'y', 'width', 'height', 'viewBox',
+  'text-anchor', 'font-family', 'font-size', 'font-weight', 'xlink:href', 'xlink:title',
+]);
 
 /** @param {string} text attributes as Graphviz writes them @returns {string} */
 function attributesOf(text) {
-  return [...text.matchAll(/\s([\w:-]+)="([^"]*)"/g)].filter(([, name, value]) => ATTRIBUTES.test(name) && (name !== 'xlink:href' || value.startsWith('#')))
-    .map(([, name, value]) => ` ${name.replace('xlink:href', 'href').replace('xlink:title', 'data-tip')}="${value.replaceAll('<', '&#60;')}"`).join('');
+  return text.replace(/\s+([\w:-]+)="([^"]*)"/g, (_, /** @type {string} */ name, /** @type {string} */ value) => {
+    if (!ATTRIBUTES.has(name) || (name === 'xlink:href' && !value.startsWith('#'))) return '';
+    return ` ${name.replace('xlink:href', 'href').replace('xlink:title', 'data-tip')}="${value.replaceAll('<', '&#60;')}"`;
+  });
 }
 
 /** @param {string} svg as Graphviz writes it @returns {string} for HTML: elements and attributes that are known, and text */
@@ -23,7 +28,7 @@ export function inlined(svg) {
   const text = svg.slice(svg.indexOf('<svg')).replace(/<!--[^]*?-->/g, '');
   return text.replace(/<(\/?)([\w:-]+)((?:\s+[\w:-]+="[^"]*")*)\s*(\/?)>|</g, (whole, close, name, attributes = '', isEmpty = '') => {
     if (name === undefined) return '&#60;';
-    if (!ELEMENTS.test(name)) return '';
+    if (!ELEMENTS.has(name)) return '';
     return close ? `</${name}>` : `<${name}${attributesOf(attributes)}${isEmpty ? '/' : ''}>`;
   });
 }
