@@ -49,12 +49,12 @@ def allows_lines(table):
         tells = one_of('name', it.kinds) if it.kinds else 'name.%s()' % table.sets[it.name].test()
         arms.append('            Category::%s => %s,' % (it.name, tells))
     return ['impl Category {', '    /// Returns whether a kind may stand there.', '    pub fn allows(self, name: KindName) -> bool',
-            '        ensures { result ≡ allows self name }', '    {', '        match self {', *arms, '        }', '    }', '}']
+            '        ensures { result ≡ category_allows_kind self name }', '    {', '        match self {', *arms, '        }', '    }', '}']
 
 
 def categories_file(table):
     """Returns the file with the enum of categories, and the tests for their kinds."""
-    names = ', '.join(['allows', *(it.test() for it in table.sets.values())])
+    names = ', '.join(['category_allows_kind', *(it.test() for it in table.sets.values())])
     ghosts = ['ghost use Rattle.std.specs.Prelude.{◌≡◌};', 'ghost use %sCategories.{%s};' % (SPECS, names)]
     doc = 'Categories: which kinds may stand at a place.'
     return code(doc, ghosts, ['use crate::tree::names::KindName;'], enum_lines(table), tests_lines(table), allows_lines(table))
@@ -73,10 +73,10 @@ def contract_allows_lines(table):
     """Returns the function of contracts that says whether a field allows a kind."""
     rows = []
     for it in table.categories.values():
-        rows += ['allows Category.%s Name.%s = true' % (it.name, kind) for kind in it.kinds]
+        rows += ['category_allows_kind Category.%s Name.%s = true' % (it.name, kind) for kind in it.kinds]
         last = '%s _ = false' % it.name if it.kinds else '%s k = %s k' % (it.name, table.sets[it.name].test())
-        rows.append('allows Category.' + last)
-    return ['-- whether a kind may stand at a place of the category', 'abbrev pub allows : Category → KindName → Bool', *rows]
+        rows.append('category_allows_kind Category.' + last)
+    return ['-- whether a kind may stand at a place of the category', 'abbrev pub category_allows_kind : Category → KindName → Bool', *rows]
 
 
 def contract_categories_file(table):

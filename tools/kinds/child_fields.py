@@ -8,20 +8,29 @@ from .tree import DECLARED, SPECS, enum_names
 
 @dataclass(frozen=True)
 class Named:
-    """A name of fields that hold children, or lists of them: its method, its function of contracts, and the fields with their kinds. Its match is in
-    a function of kinds."""
+    """A name of fields that hold children, or lists of them: its method, its function of contracts, its function of kinds, which has the match, and
+    the fields with their kinds."""
 
     field: str
     method: str
     contract: str
+    function: str
     of: tuple
 
     def is_list(self):
         return self.of[0][1].is_list()
 
-    def function(self):
-        """Returns the function of kinds that has its match."""
-        return self.contract + '_kind'
+
+# names of lists that are no plurals
+VERBS = ('implements', 'extends')
+
+
+def contract_of(table, name, is_list):
+    """Returns the function of contracts of a name of fields: `body_child_of`, and of lists `member_children_of`."""
+    if name in table.in_contracts:
+        return table.in_contracts[name] + '_of'
+    singular = name[:-1] if name.endswith('s') and name not in VERBS else name
+    return singular + '_children_of' if is_list else name + '_child_of'
 
 
 def named_of(table):
@@ -34,8 +43,8 @@ def named_of(table):
     made = []
     for (name, is_list), of in found.items():
         method = name + '_node' if not is_list and (name, True) in found else name
-        contract = table.in_contracts.get(name, name) if method == name else method
-        made.append(Named(name, method, contract + '_of', tuple(of)))
+        function = (table.in_contracts.get(name, name) if method == name else method) + '_of_kind'
+        made.append(Named(name, method, contract_of(table, name, is_list), function, tuple(of)))
     return made
 
 
@@ -85,7 +94,7 @@ def whose(named):
 def function_lines(table, named):
     """Returns the function of kinds of a name."""
     result, clause = ('&[NodeId]', 'result.now') if named.is_list() else ('Option<NodeId>', 'result')
-    return ['pub(crate) fn %s(kind: &Kind) -> %s' % (named.function(), result), '    ensures { %s ≡ %s kind.now }' % (clause, named.contract), '{',
+    return ['pub(crate) fn %s(kind: &Kind) -> %s' % (named.function, result), '    ensures { %s ≡ %s kind.now }' % (clause, named.contract), '{',
             '    match kind {', *arms_lines(table, named), '    }', '}']
 
 
@@ -101,10 +110,10 @@ def method_lines(named):
     """Returns the method of a name."""
     if named.is_list():
         clause = 'result.now ≡ child_list_in_field (node_view self.entry) %s' % named.contract
-        result, body = "&'a [NodeId]", ['kind_fields::%s(self.kind())' % named.function()]
+        result, body = "&'a [NodeId]", ['kind_fields::%s(self.kind())' % named.function]
     else:
         clause = 'option_map node_view result ≡ child_in_field (node_view self.entry) %s' % named.contract
-        body = ['let child = kind_fields::%s(self.kind());' % named.function(), 'NodeRef::node_in(self.tree, child)']
+        body = ['let child = kind_fields::%s(self.kind());' % named.function, 'NodeRef::node_in(self.tree, child)']
         result = "Option<NodeRef<'a>>"
     return ['    /// Returns the `%s` of %s.' % (named.field, whose(named)), '    pub fn %s(self) -> %s' % (named.method, result),
             '        ensures { %s }' % clause, '    {', *space_all(8, body), '    }']

@@ -2,6 +2,9 @@
 from .lines import code, contracts, uses
 from .tree import DECLARED, SPECS, asked_lines, by_enum_lines, enum_names, enum_uses
 
+# the functions of contracts that make a field, by the sort of its children
+MADE = {'one': 'field_of_one_child', 'optional': 'field_of_optional_child', 'many': 'field_of_children'}
+
 
 def arm_line(kind):
     """Returns the arm of a kind, in the method that returns its fields."""
@@ -21,7 +24,7 @@ def fields_file(table):
     names = ', '.join(['fields', *(it.small() + '_fields' for it in table.enums)])
     ghosts = ['ghost use Rattle.std.specs.Prelude.{◌≡◌, ◌∷◌, [], OnOk, ◌++◌};', 'ghost use Rattle.std.specs.List.{flat_map};',
               'ghost use %sFields.{%s};' % (SPECS, names),
-              'ghost use %sFieldViews.{field_view, field_views, one_field, optional_field, many_field};' % SPECS]
+              'ghost use %sFieldViews.{field_view, field_views, %s};' % (SPECS, ', '.join(MADE.values()))]
     brought = ['use crate::tree::categories::Category;', 'use crate::tree::field::{many, one, optional, slots, Fields};', enum_names(table)]
     asked = ['impl Kind {', '    /// Returns the fields that hold children, in their order.', "    pub fn fields(&self) -> Fields<'_>",
              *asked_lines(table, 'fields', 'field_views result ≡ fields self.now')]
@@ -32,7 +35,7 @@ def fields_file(table):
 def row_of(name, kind):
     """Returns the row of a kind, in the function of contracts that has its fields."""
     given = [it.name if it.sort.children else '_' for it in kind.fields]
-    views = ['%s_field Category.%s %s%s ∷ ' % (it.sort.children, it.category, it.name, '.items' if it.is_list() else '') for it in kind.children()]
+    views = ['%s Category.%s %s%s ∷ ' % (MADE[it.sort.children], it.category, it.name, '.items' if it.is_list() else '') for it in kind.children()]
     return '%s (%s.%s %s) = %s[]' % (name, kind.enum, kind.name, ' '.join(given), ''.join(views))
 
 
@@ -45,6 +48,6 @@ def contract_fields_lines(enum):
 def contract_fields_file(table):
     """Returns the functions of contracts that have the fields of kinds."""
     brought = [*uses('Rattle.std.specs.Prelude.{List, [], ◌∷◌}', DECLARED + 'categories.Category.{Category}'),
-               *enum_uses(table, SPECS + 'FieldViews.{FieldView, one_field, optional_field, many_field}')]
+               *enum_uses(table, SPECS + 'FieldViews.{FieldView, %s}' % ', '.join(MADE.values()))]
     doc = 'The fields of each kind that hold children, in their order, each with the category that may stand there.'
     return contracts(doc, brought, *(contract_fields_lines(it) for it in table.enums), by_enum_lines(table, 'fields', 'List FieldView', 'fields'))

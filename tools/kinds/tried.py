@@ -26,18 +26,18 @@ SPOILT = [
     ('a function is not brought', TREE + 'categories.rt', (' is_type,', ''), 'text'),
     ('a set of contracts has a kind more', SYNTAX + 'Categories.antt', ('is_property_key _', 'is_property_key Name.Arrow = true\nis_property_key _'), 'text'),
     ('a category of contracts allows another kind', SYNTAX + 'Categories.antt',
-     ('allows Category.Class Name.Class ', 'allows Category.Class Name.Other '), 'text'),
+     ('category_allows_kind Category.Class Name.Class ', 'category_allows_kind Category.Class Name.Other '), 'text'),
     ('a field has another category', TREE + 'fields.rt', ('one(Category::AssignLeft, left)', 'one(Category::Pattern, left)'),
      'text'),
     ('a field is optional', TREE + 'fields.rt', ('one(Category::MemberProp', 'optional(Category::MemberProp'), 'text'),
     ('a field that holds children is left out', TREE + 'fields.rt', ('                optional(Category::ModuleBody, body)\n', ''),
      'text'),
-    ('a field of contracts has another category', SYNTAX + 'Fields.antt', ('one_field Category.ParamPropPattern', 'one_field Category.Pattern'),
+    ('a field of contracts has another category', SYNTAX + 'Fields.antt', ('field_of_one_child Category.ParamPropPattern', 'field_of_one_child Category.Pattern'),
      'text'),
     ('a method asks for another field', TREE + 'child_fields.rt', ('kind_fields::left_of_kind(', 'kind_fields::right_of_kind('), 'text'),
     ('a method of another name', TREE + 'child_fields.rt', ('pub fn body_node', 'pub fn block'), 'text'),
     ('a match of kinds lacks a kind', TREE + 'kind_fields.rt', ('            | Pat::ArrayPat { type_ann, .. }\n', ''), 'text'),
-    ('a function of kinds is not brought', TREE + 'kind_fields.rt', (' props_of,', ''), 'text'),
+    ('a function of kinds is not brought', TREE + 'kind_fields.rt', (' prop_children_of,', ''), 'text'),
     ('a child stands in another place', SYNTAX + 'ChildFields.antt',
      ('Item.TsImportEqualsDecl _ child _ _', 'Item.TsImportEqualsDecl _ _ child _'), 'text'),
     ('another field is read', KINDS + 'members.rt', ('"method_kind"', '"kind"'), 'text'),
@@ -268,11 +268,11 @@ MADE = [
                 how
             )],
 """),
-    (SYNTAX + 'Fields.antt', 'pat_fields (Pat.TsSatisfiesExpression expr ty how notes _ _ _ _ _) = one_field Category.Expression expr ∷ '
-     'one_field Category.Type ty ∷ optional_field Category.Reason how ∷ many_field Category.Reason notes.items ∷ []\n'),
+    (SYNTAX + 'Fields.antt', 'pat_fields (Pat.TsSatisfiesExpression expr ty how notes _ _ _ _ _) = field_of_one_child Category.Expression expr ∷ '
+     'field_of_one_child Category.Type ty ∷ field_of_optional_child Category.Reason how ∷ field_of_children Category.Reason notes.items ∷ []\n'),
     (TREE + 'child_fields.rt', """    /// Returns the `how` of `TsSatisfiesExpression`, `TsSatisfiesExpressionOfConstructorParam`.
     pub fn how(self) -> Option<NodeRef<'a>>
-        ensures { option_map node_view result ≡ child_in_field (node_view self.entry) how_of }
+        ensures { option_map node_view result ≡ child_in_field (node_view self.entry) how_child_of }
     {
         let child = kind_fields::how_of_kind(self.kind());
         NodeRef::node_in(self.tree, child)
@@ -280,13 +280,13 @@ MADE = [
 
     /// Returns the `notes` of a `TsSatisfiesExpression`.
     pub fn notes(self) -> &'a [NodeId]
-        ensures { result.now ≡ child_list_in_field (node_view self.entry) notes_of }
+        ensures { result.now ≡ child_list_in_field (node_view self.entry) note_children_of }
     {
         kind_fields::notes_of_kind(self.kind())
     }
 """),
     (TREE + 'kind_fields.rt', """pub(crate) fn how_of_kind(kind: &Kind) -> Option<NodeId>
-    ensures { result ≡ how_of kind.now }
+    ensures { result ≡ how_child_of kind.now }
 {
     match kind {
         Kind::Pat(Pat::TsSatisfiesExpressionOfConstructorParam { how, .. }) => Some(*how),
@@ -296,7 +296,7 @@ MADE = [
 }
 
 pub(crate) fn notes_of_kind(kind: &Kind) -> &[NodeId]
-    ensures { result.now ≡ notes_of kind.now }
+    ensures { result.now ≡ note_children_of kind.now }
 {
     match kind {
         Kind::Pat(Pat::TsSatisfiesExpression { notes, .. }) => notes,
@@ -304,13 +304,13 @@ pub(crate) fn notes_of_kind(kind: &Kind) -> &[NodeId]
     }
 }
 """),
-    (TREE + 'child_fields.rt', 'arg_of, children_field_of, how_of, notes_of};\n'),
-    (SYNTAX + 'ChildFields.antt', """abbrev pub how_of : Kind → Option ℕ
-how_of (Kind.Pat (Pat.TsSatisfiesExpression _ _ child _ _ _ _ _ _)) = child
-how_of (Kind.Pat (Pat.TsSatisfiesExpressionOfConstructorParam child _)) = Some child
-how_of _ = None
+    (TREE + 'child_fields.rt', 'arg_child_of, children_field_of, how_child_of, note_children_of};\n'),
+    (SYNTAX + 'ChildFields.antt', """abbrev pub how_child_of : Kind → Option ℕ
+how_child_of (Kind.Pat (Pat.TsSatisfiesExpression _ _ child _ _ _ _ _ _)) = child
+how_child_of (Kind.Pat (Pat.TsSatisfiesExpressionOfConstructorParam child _)) = Some child
+how_child_of _ = None
 """),
-    (TREE + 'categories.rt', """        self.is_exported_declaration()
+    (TREE + 'categories.rt', """        self.is_exportable_declaration()
             || self.is_constructor_param()
             || matches!(self, KindName::TsSatisfiesExpression)
 """),
@@ -327,9 +327,9 @@ how_of _ = None
     (SYNTAX + 'Categories.antt', """-- causes
 abbrev pub is_cause : KindName → Bool
 is_cause Name.TsSatisfiesExpression = true
-is_cause k = is_exported_declaration k || is_constructor_param k
+is_cause k = is_exportable_declaration k || is_constructor_param k
 """),
-    (SYNTAX + 'Categories.antt', 'allows Category.Reason Name.TsSatisfiesExpression = true\nallows Category.Reason _ = false\n'),
+    (SYNTAX + 'Categories.antt', 'category_allows_kind Category.Reason Name.TsSatisfiesExpression = true\ncategory_allows_kind Category.Reason _ = false\n'),
     (KINDS + 'pats.rt', """/// The kind that the text calls `Satisfies`.
 fn satisfies(alloc: Global, object: &Object<'_, '_>) -> Result<Pat, FormatFault>
     ensures { IsReadResult pat_name_and_field_values result (read_as_kind Name.TsSatisfiesExpression (object_data object.now)) }

@@ -2,7 +2,7 @@
 use Rattle.std.specs.Prelude.{ℕ, List, Option}
 use Rattle.symbols_ast.specs.declared.ids.SymbolId.{SymbolId}
 use Rattle.symbols_nodes.specs.References.{NamespacedReference}
-use Rattle.symbols_exports.specs.PublicNames.{PublicNameView}
+use Rattle.symbols_exports.specs.PublicNames.{ExportedNameWithMember}
 use Rattle.symbols_exports.specs.SharedNames.{NameWithExporters}
 use Rattle.symbols_exports.specs.ExportViews.{ExportView, StarStatementView}
 use Rattle.symbols_paths.specs.PathTrees.{DefinitionView, PathLeaf, PathForest}
@@ -17,7 +17,7 @@ pub data AnswerView : Type 0 where
   answer_no_module : AnswerView
   answer_module : List ℕ → AnswerView
   answer_exports : List ExportView → Option (List (NameWithExporters ExportView)) → List StarStatementView → AnswerView
-  answer_names : List PublicNameView → AnswerView
+  answer_names : List ExportedNameWithMember → AnswerView
   answer_symbol : Option SymbolId → AnswerView
   answer_name : Option (List ℕ) → AnswerView
   answer_deps : List (List NamespacedReference) → AnswerView

@@ -6,35 +6,35 @@ use Rattle.symbols_ast.specs.Graph.{GraphView, ModuleView, module_after_redirect
 use Rattle.symbols_nodes.specs.References.{SymbolReference, id, qualified_id, import_type}
 use Rattle.symbols_table.specs.Analysis.{symbol_count}
 use Rattle.symbols_table.specs.DeclViews.{FileDepView, Declaration, decl_kind_dep}
-use Rattle.symbols_root.specs.GraphModules.{changes_of_module}
+use Rattle.symbols_root.specs.GraphModules.{table_changes_of_module}
 use Rattle.symbols_root.specs.Specifiers.{contains_specifier}
 use Rattle.symbols_root.specs.TypesChains.{resolved_module_specifier}
 use Rattle.symbols_exports.specs.StarStatements.{star_specifiers}
 use Rattle.symbols_paths.specs.DeclTargets.{declarations_of}
 use Rattle.symbols_answers.specs.Questions.{QuestionView, query_module, query_exports, query_names, query_symbol, query_name}
 use Rattle.symbols_answers.specs.Questions.{query_deps, query_paths, query_definitions, query_leaves, query_resolve, QueryView}
-use Rattle.symbols_answers.specs.Inputs.{InputView, input_of}
+use Rattle.symbols_answers.specs.Inputs.{InputView, input_of_specifier}
 
 -- ---- lists of specifiers
 
 -- the list with a specifier at its end, unless it has that already
-abbrev pub with_specifier : List (List ℕ) → List ℕ → List (List ℕ)
-with_specifier specifiers specifier = if contains_specifier specifiers specifier then specifiers else specifiers ++ specifier ∷ []
+abbrev pub append_specifier_if_absent : List (List ℕ) → List ℕ → List (List ℕ)
+append_specifier_if_absent specifiers specifier = if contains_specifier specifiers specifier then specifiers else specifiers ++ specifier ∷ []
 
-abbrev pub with_found_specifier : List (List ℕ) → Option (List ℕ) → List (List ℕ)
-with_found_specifier specifiers None = specifiers
-with_found_specifier specifiers (Some specifier) = with_specifier specifiers specifier
+abbrev pub append_optional_specifier_if_absent : List (List ℕ) → Option (List ℕ) → List (List ℕ)
+append_optional_specifier_if_absent specifiers None = specifiers
+append_optional_specifier_if_absent specifiers (Some specifier) = append_specifier_if_absent specifiers specifier
 
 -- the list with what these specifiers, written in the referrer, resolve to
-abbrev pub with_targets : GraphView → List ℕ → List (List ℕ) → List (List ℕ) → List (List ℕ)
-with_targets graph referrer specifiers specifier_texts =
-    fold (λ list specifier_text. with_found_specifier list (resolved_dependency graph referrer specifier_text)) specifiers specifier_texts
+abbrev pub append_resolved_specifiers : GraphView → List ℕ → List (List ℕ) → List (List ℕ) → List (List ℕ)
+append_resolved_specifiers graph referrer specifiers specifier_texts =
+    fold (λ list specifier_text. append_optional_specifier_if_absent list (resolved_dependency graph referrer specifier_text)) specifiers specifier_texts
 
 -- the list after each of its specifiers, from an index on, has added others at its end. The number bounds the steps
-unfoldable pub walk_from : (List ℕ → List (List ℕ) → List (List ℕ)) → ℕ → ℕ → List (List ℕ) → List (List ℕ)
-walk_from step zero position specifiers = specifiers
-walk_from step (suc n) position specifiers =
-    option_map_or (λ specifier. walk_from step n (suc position) (step specifier specifiers)) (slice_get specifiers position) specifiers
+unfoldable pub list_grown_by_walk_from_index : (List ℕ → List (List ℕ) → List (List ℕ)) → ℕ → ℕ → List (List ℕ) → List (List ℕ)
+list_grown_by_walk_from_index step zero position specifiers = specifiers
+list_grown_by_walk_from_index step (suc n) position specifiers =
+    option_map_or (λ specifier. list_grown_by_walk_from_index step n (suc position) (step specifier specifiers)) (slice_get specifiers position) specifiers
 
 -- more steps than any walk takes: fewer specifiers can be numbered
 abbrev pub walk_limit : ℕ
@@ -45,7 +45,7 @@ walk_limit = 2 ^ 64
 -- the declarations of each symbol of a module, in order of the symbols' numbers
 abbrev pub declarations_in_module : GraphView → List ℕ → List (List Declaration)
 declarations_in_module graph specifier = map (λ n. declarations_of graph (record { specifier = specifier; number = record { 0 = n } }))
-    (range_with_len 0 (symbol_count (changes_of_module graph specifier)))
+    (range_with_len 0 (symbol_count (table_changes_of_module graph specifier)))
 
 -- the specifiers of the imports and re-exports among declarations
 abbrev pub import_specifiers_among : List Declaration → List (List ℕ)
@@ -77,37 +77,39 @@ import_type_specifier (qualified_id name parts) = None
 import_type_specifier (import_type specifier_text parts) = Some specifier_text
 
 -- the specifier of the import type that is resolved, if the question is on one
-abbrev pub resolved_import_type : QuestionView → Option (List ℕ)
-resolved_import_type (query_resolve reference) = import_type_specifier reference
-resolved_import_type _ = None
+abbrev pub import_type_specifier_of_question : QuestionView → Option (List ℕ)
+import_type_specifier_of_question (query_resolve reference) = import_type_specifier reference
+import_type_specifier_of_question _ = None
 
 -- ---- the walks
 
 -- the list with what a question requests from the module that a specifier resolves to
-abbrev pub with_requests : GraphView → QuestionView → List ℕ → List (List ℕ) → List (List ℕ)
-with_requests graph question key specifiers =
-    option_map_or (λ specifier. with_targets graph specifier specifiers (followed_specifiers graph question specifier))
+abbrev pub append_requested_specifiers : GraphView → QuestionView → List ℕ → List (List ℕ) → List (List ℕ)
+append_requested_specifiers graph question key specifiers =
+    option_map_or (λ specifier. append_resolved_specifiers graph specifier specifiers (followed_specifiers graph question specifier))
     (resolved_module_specifier graph key) specifiers
 
 -- the list with what an import type in the queried module resolves to
-abbrev pub with_import_type : GraphView → QueryView → List (List ℕ) → List (List ℕ)
-with_import_type graph query specifiers =
-    option_map_or (λ specifier_text. option_map_or (λ specifier. with_found_specifier specifiers (resolved_dependency graph specifier specifier_text))
-    (resolved_module_specifier graph query.specifier) specifiers) (resolved_import_type query.question) specifiers
+abbrev pub append_resolved_import_type : GraphView → QueryView → List (List ℕ) → List (List ℕ)
+append_resolved_import_type graph query specifiers =
+    option_map_or (λ specifier_text. option_map_or (λ specifier. append_optional_specifier_if_absent specifiers
+    (resolved_dependency graph specifier specifier_text))
+    (resolved_module_specifier graph query.specifier) specifiers) (import_type_specifier_of_question query.question) specifiers
 
 -- the specifiers that a query requests
 abbrev pub requested_specifiers : GraphView → QueryView → List (List ℕ)
-requested_specifiers graph query = walk_from (with_requests graph query.question) walk_limit 0 (with_import_type graph query (query.specifier ∷ []))
+requested_specifiers graph query = list_grown_by_walk_from_index (append_requested_specifiers graph query.question) walk_limit 0
+    (append_resolved_import_type graph query (query.specifier ∷ []))
 
 -- the list with the types dependency of the module that is found under a specifier
-abbrev pub with_types_dependency : GraphView → List ℕ → List (List ℕ) → List (List ℕ)
-with_types_dependency graph key specifiers =
-    with_found_specifier specifiers (option_and_then (λ (m : ModuleView). content_types_dependency m.content) (module_after_redirect graph key))
+abbrev pub append_types_dependency : GraphView → List ℕ → List (List ℕ) → List (List ℕ)
+append_types_dependency graph key specifiers =
+    append_optional_specifier_if_absent specifiers (option_and_then (λ (m : ModuleView). content_types_dependency m.content) (module_after_redirect graph key))
 
 -- the specifiers that a query looks up: the requested ones in the order of requests, then those that only types dependencies lead to
 abbrev pub seen_specifiers : GraphView → QueryView → List (List ℕ)
-seen_specifiers graph query = walk_from (with_types_dependency graph) walk_limit 0 (requested_specifiers graph query)
+seen_specifiers graph query = list_grown_by_walk_from_index (append_types_dependency graph) walk_limit 0 (requested_specifiers graph query)
 
 -- the inputs of a query
 abbrev pub inputs_of_query : GraphView → QueryView → List InputView
-inputs_of_query graph query = map (input_of graph) (seen_specifiers graph query)
+inputs_of_query graph query = map (input_of_specifier graph) (seen_specifiers graph query)

@@ -14,9 +14,9 @@ pub record InputView : Type 0 where
   pub specifier : List ℕ
   pub found : FoundView
 
-abbrev pub found_under : List ℕ → Option ModuleView → FoundView
-found_under specifier None = found_absent
-found_under specifier (Some m) = if bytes_eq m.specifier specifier then found_module else found_redirect m.specifier
+abbrev pub found_under_specifier : List ℕ → Option ModuleView → FoundView
+found_under_specifier specifier None = found_absent
+found_under_specifier specifier (Some m) = if bytes_eq m.specifier specifier then found_module else found_redirect m.specifier
 
-abbrev pub input_of : GraphView → List ℕ → InputView
-input_of graph specifier = record { specifier = specifier; found = found_under specifier (module_after_redirect graph specifier) }
+abbrev pub input_of_specifier : GraphView → List ℕ → InputView
+input_of_specifier graph specifier = record { specifier = specifier; found = found_under_specifier specifier (module_after_redirect graph specifier) }

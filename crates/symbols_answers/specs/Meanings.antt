@@ -11,10 +11,10 @@ use Rattle.symbols_table.specs.QualifiedNames.{qualified_name}
 use Rattle.symbols_table.specs.SymbolViews.{SymbolView}
 use Rattle.symbols_deps.specs.DeclDependencies.{AreDeclDependencies}
 use Rattle.symbols_root.specs.declared.rules.Rules.{Rules}
-use Rattle.symbols_root.specs.GraphModules.{changes_of_module, symbol_in_module}
+use Rattle.symbols_root.specs.GraphModules.{table_changes_of_module, symbol_in_module}
 use Rattle.symbols_root.specs.TypesChains.{is_analyzable, IsUniqueTypesChain}
 use Rattle.symbols_exports.specs.Exports.{ExportEntry, StarPosition, AreExports, AreUnresolvedStars}
-use Rattle.symbols_exports.specs.PublicNames.{PublicNameView, exports_of_symbol, public_names_with_members}
+use Rattle.symbols_exports.specs.PublicNames.{ExportedNameWithMember, exports_of_symbol, public_names_with_members}
 use Rattle.symbols_exports.specs.SharedNames.{NameWithExporters, AreSharedNames}
 use Rattle.symbols_exports.specs.SharedNameLists.{shared_name_view_of_entry}
 use Rattle.symbols_exports.specs.StarStatements.{star_targets_of, explicit_exports_of}
@@ -26,7 +26,7 @@ use Rattle.symbols_answers.specs.Questions.{QuestionView, query_module, query_ex
 use Rattle.symbols_answers.specs.Questions.{query_deps, query_paths, query_definitions, query_leaves, query_resolve, QueryForm, for_answer, for_inputs, QueryView}
 use Rattle.symbols_answers.specs.Answers.{AnswerView, answer_no_module, answer_module, answer_exports, answer_names, answer_symbol}
 use Rattle.symbols_answers.specs.Answers.{answer_name, answer_deps, answer_paths, answer_definitions, answer_leaves, answer_resolve, answer_inputs}
-use Rattle.symbols_answers.specs.Inputs.{InputView, input_of}
+use Rattle.symbols_answers.specs.Inputs.{InputView, input_of_specifier}
 use Rattle.symbols_answers.specs.QueryReach.{IsSpecifierLookedUpByQuery}
 use Rattle.symbols_answers.specs.InputLists.{inputs_of_query}
 use Rattle.symbols_answers.specs.QueryAnswers.{some_if_strict}
@@ -44,7 +44,7 @@ pub record IsAnswerOfExports (rules : Rules) (graph : GraphView) (specifier : Li
       (star_statement_view graph) unresolved)
 
 -- the public names by these exports: each name without a member, then with each name that its symbol itself exports
-abbrev pub public_names_of_entries : GraphView → List ExportEntry → List PublicNameView
+abbrev pub public_names_of_entries : GraphView → List ExportEntry → List ExportedNameWithMember
 public_names_of_entries graph entries = flat_map (λ (entry : ExportEntry). public_names_with_members entry.name
     (exports_of_symbol graph entry.exporter entry.symbol))
     entries
@@ -53,7 +53,7 @@ public_names_of_entries graph entries = flat_map (λ (entry : ExportEntry). publ
 pub record IsAnswerOfPublicNames (graph : GraphView) (specifier : List ℕ) (answer : AnswerView) : Type 0 where
   pub entries : List ExportEntry
   pub are_exports : AreExports (star_targets_of graph) (explicit_exports_of graph) specifier entries
-  pub has_no_duplicates : AllPairs (λ (x y : PublicNameView). x ≢ y) (public_names_of_entries graph entries)
+  pub has_no_duplicates : AllPairs (λ (x y : ExportedNameWithMember). x ≢ y) (public_names_of_entries graph entries)
   pub answer_is : answer ≡ answer_names (public_names_of_entries graph entries)
 
 -- the answer has for each declaration of a symbol, in order, the list of its dependencies
@@ -86,7 +86,7 @@ IsAnswerToQuestion rules graph specifier query_module answer = answer ≡ answer
 IsAnswerToQuestion rules graph specifier query_exports answer = IsAnswerOfExports rules graph specifier answer
 IsAnswerToQuestion rules graph specifier query_names answer = IsAnswerOfPublicNames graph specifier answer
 IsAnswerToQuestion rules graph specifier (query_symbol name) answer = answer ≡ answer_symbol
-    (symbol_of_ident_after_changes (changes_of_module graph specifier) name)
+    (symbol_of_ident_after_changes (table_changes_of_module graph specifier) name)
 IsAnswerToQuestion rules graph specifier (query_name s) answer = answer ≡ answer_name (qualified_name (symbol_in_module graph specifier) s)
 IsAnswerToQuestion rules graph specifier (query_deps s mode) answer = IsAnswerOfDeps graph specifier s mode answer
 IsAnswerToQuestion rules graph specifier (query_paths s) answer = IsAnswerOfPaths rules graph specifier s answer_paths answer
@@ -111,7 +111,8 @@ pub record IsAnswerOnModule (rules : Rules) (graph : GraphView) (query : QueryVi
 -- the answer has the inputs of a query: exactly the specifiers that it looks up, each with what the graph has under it, and none twice
 pub record IsAnswerOfInputs (graph : GraphView) (query : QueryView) (answer : AnswerView) : Type 0 where
   pub inputs : List InputView
-  pub all : (input : InputView) → Contains inputs input ↔ (IsSpecifierLookedUpByQuery graph query input.specifier × (input ≡ input_of graph input.specifier))
+  pub all : (input : InputView) → Contains inputs input ↔ (IsSpecifierLookedUpByQuery graph query input.specifier
+      × (input ≡ input_of_specifier graph input.specifier))
   pub has_no_duplicates : IsDistinct bytes_eq (map (λ input. input.specifier) inputs)
   pub in_order : inputs ≡ inputs_of_query graph query
   pub answer_is : answer ≡ answer_inputs inputs

@@ -11,7 +11,7 @@ use Rattle.symbols_table.specs.QualifiedNames.{qualified_name}
 use Rattle.symbols_root.specs.declared.rules.Rules.{Rules}
 use Rattle.symbols_root.specs.declared.rules.Rules.TheVariants.{Deno, Strict}
 use Rattle.symbols_root.specs.TypesChains.{resolved_module_specifier}
-use Rattle.symbols_root.specs.GraphModules.{changes_of_module, symbol_in_module}
+use Rattle.symbols_root.specs.GraphModules.{table_changes_of_module, symbol_in_module}
 use Rattle.symbols_exports.specs.PublicNames.{public_names_of}
 use Rattle.symbols_exports.specs.SharedNameLists.{shared_name_views_of_module}
 use Rattle.symbols_exports.specs.Traces.{export_views_of_module, unresolved_star_views_of_module}
@@ -48,7 +48,7 @@ question_answer rules graph specifier query_exports =
     Some (answer_exports (export_views_of_module graph specifier) (some_if_strict rules (shared_name_views_of_module graph specifier))
     (unresolved_star_views_of_module graph specifier))
 question_answer rules graph specifier query_names = Some (answer_names (public_names_of graph specifier))
-question_answer rules graph specifier (query_symbol name) = Some (answer_symbol (symbol_of_ident_after_changes (changes_of_module graph specifier) name))
+question_answer rules graph specifier (query_symbol name) = Some (answer_symbol (symbol_of_ident_after_changes (table_changes_of_module graph specifier) name))
 question_answer rules graph specifier (query_name s) =
     some_answer_if_symbol_exists (symbol_in_module graph specifier s) (answer_name (qualified_name (symbol_in_module graph specifier) s))
 question_answer rules graph specifier (query_deps s mode) = option_map (dependencies_answer mode) (symbol_in_module graph specifier s)

@@ -9,7 +9,8 @@ use Rattle.symbols_paths.specs.PathTrees.{SymbolBySpecifier, QualifiedNameParts}
 use Rattle.symbols_paths.specs.DeclTargets.{declarations_of}
 use Rattle.symbols_answers.specs.Questions.{QuestionView, query_module, query_exports, query_names, query_symbol, query_name}
 use Rattle.symbols_answers.specs.Questions.{query_deps, query_paths, query_definitions, query_leaves, query_resolve, QueryView}
-use Rattle.symbols_answers.specs.Seen.{FollowedSpecifiers, StarSpecifiers, IsRequested, IsSpecifierLookedUp, AreAlikeWhereLookedUp}
+use Rattle.symbols_answers.specs.Seen.{FollowedSpecifierRelation, IsStarSpecifierOfModule, IsSpecifierReachedByFollowing, IsSpecifierLookedUp}
+use Rattle.symbols_answers.specs.Seen.{AreAlikeWhereLookedUp}
 
 -- a search for definitions follows the specifiers of `export *` statements, of imports and of re-exports; and in the queried module that of
 -- the import type that is resolved
@@ -25,30 +26,31 @@ pub data IsFollowedBySearch (graph : GraphView) (queried : List ℕ) (question :
 
 -- the specifiers that a question follows: none, if it is on the queried module alone; those of `export *` statements for exports and public
 -- names; those of the search for paths, definitions, leaves and references
-abbrev pub specifiers_followed_by_question : GraphView → List ℕ → QuestionView → FollowedSpecifiers
-specifiers_followed_by_question graph queried query_module = λ specifier specifier_text. ⊥
-specifiers_followed_by_question graph queried query_exports = StarSpecifiers graph
-specifiers_followed_by_question graph queried query_names = StarSpecifiers graph
-specifiers_followed_by_question graph queried (query_symbol name) = λ specifier specifier_text. ⊥
-specifiers_followed_by_question graph queried (query_name s) = λ specifier specifier_text. ⊥
-specifiers_followed_by_question graph queried (query_deps s mode) = λ specifier specifier_text. ⊥
-specifiers_followed_by_question graph queried (query_paths s) = IsFollowedBySearch graph queried (query_paths s)
-specifiers_followed_by_question graph queried (query_definitions s) = IsFollowedBySearch graph queried (query_definitions s)
-specifiers_followed_by_question graph queried (query_leaves s) = IsFollowedBySearch graph queried (query_leaves s)
-specifiers_followed_by_question graph queried (query_resolve reference) = IsFollowedBySearch graph queried (query_resolve reference)
+abbrev pub IsSpecifierFollowedForQuestion : GraphView → List ℕ → QuestionView → FollowedSpecifierRelation
+IsSpecifierFollowedForQuestion graph queried query_module = λ specifier specifier_text. ⊥
+IsSpecifierFollowedForQuestion graph queried query_exports = IsStarSpecifierOfModule graph
+IsSpecifierFollowedForQuestion graph queried query_names = IsStarSpecifierOfModule graph
+IsSpecifierFollowedForQuestion graph queried (query_symbol name) = λ specifier specifier_text. ⊥
+IsSpecifierFollowedForQuestion graph queried (query_name s) = λ specifier specifier_text. ⊥
+IsSpecifierFollowedForQuestion graph queried (query_deps s mode) = λ specifier specifier_text. ⊥
+IsSpecifierFollowedForQuestion graph queried (query_paths s) = IsFollowedBySearch graph queried (query_paths s)
+IsSpecifierFollowedForQuestion graph queried (query_definitions s) = IsFollowedBySearch graph queried (query_definitions s)
+IsSpecifierFollowedForQuestion graph queried (query_leaves s) = IsFollowedBySearch graph queried (query_leaves s)
+IsSpecifierFollowedForQuestion graph queried (query_resolve reference) = IsFollowedBySearch graph queried (query_resolve reference)
 
 -- the query requests the specifier
-abbrev pub IsRequestedByQuery : GraphView → QueryView → List ℕ → Type 0
-IsRequestedByQuery graph query key = IsRequested graph (specifiers_followed_by_question graph query.specifier query.question) query.specifier key
+abbrev pub IsSpecifierRequestedByQuery : GraphView → QueryView → List ℕ → Type 0
+IsSpecifierRequestedByQuery graph query key = IsSpecifierReachedByFollowing graph (IsSpecifierFollowedForQuestion graph query.specifier query.question)
+    query.specifier key
 
 -- the query looks up the specifier
 abbrev pub IsSpecifierLookedUpByQuery : GraphView → QueryView → List ℕ → Type 0
-IsSpecifierLookedUpByQuery graph query key = IsSpecifierLookedUp graph (specifiers_followed_by_question graph query.specifier query.question) query.specifier
+IsSpecifierLookedUpByQuery graph query key = IsSpecifierLookedUp graph (IsSpecifierFollowedForQuestion graph query.specifier query.question) query.specifier
     key
 
 -- the graphs agree on what the query looks up in the first
 abbrev pub AreAlikeForQuery : GraphView → GraphView → QueryView → Type 0
-AreAlikeForQuery graph other query = AreAlikeWhereLookedUp graph other (specifiers_followed_by_question graph query.specifier query.question) query.specifier
+AreAlikeForQuery graph other query = AreAlikeWhereLookedUp graph other (IsSpecifierFollowedForQuestion graph query.specifier query.question) query.specifier
 
 -- no specifier that the query looks up is, after one redirect, that of the module
 abbrev pub IsModuleNotLookedUpByQuery : GraphView → QueryView → List ℕ → Type 0

@@ -12,7 +12,7 @@ use Rattle.symbols_answers.specs.Questions.{QuestionView, query_module, query_ex
 use Rattle.symbols_answers.specs.Questions.{query_deps, query_paths, query_definitions, query_leaves, query_resolve, QueryForm, for_answer, for_inputs, QueryView}
 use Rattle.symbols_answers.specs.Answers.{AnswerView, answer_no_module, answer_module, answer_exports, answer_names, answer_symbol}
 use Rattle.symbols_answers.specs.Answers.{answer_name, answer_deps, answer_paths, answer_definitions, answer_leaves, answer_resolve, answer_inputs}
-use Rattle.symbols_answers.specs.QueryReach.{IsRequestedByQuery}
+use Rattle.symbols_answers.specs.QueryReach.{IsSpecifierRequestedByQuery}
 
 -- ---- the modules that an answer names
 
@@ -93,7 +93,7 @@ pub record AreAnswerModulesStored (root : RootView) (specifier : List ℕ) (ques
 
 -- each module that a requested specifier resolves to is stored
 abbrev pub AreRequestedModulesStored : RootView → QueryView → Type 0
-AreRequestedModulesStored root query = (key v : List ℕ) → IsRequestedByQuery root.graph query key → resolved_module_specifier root.graph key ≡ Some v
+AreRequestedModulesStored root query = (key v : List ℕ) → IsSpecifierRequestedByQuery root.graph query key → resolved_module_specifier root.graph key ≡ Some v
     → Contains root.stored v
 
 -- the same for a query: those of its answer, if its specifier resolves to a module; for its inputs those that it requests

@@ -9,249 +9,249 @@ use Rattle.symbols_ast.specs.declared.tree.kinds.Expr.TheVariants as Expr
 use Rattle.symbols_ast.specs.declared.tree.kinds.Pat.TheVariants as Pat
 use Rattle.symbols_ast.specs.declared.tree.kinds.Kind.{Kind}
 
-abbrev pub body_of : Kind → List ℕ
-body_of (Kind.Item (Item.Program child)) = child.items
-body_of (Kind.Decl (Decl.Class _ _ _ _ child)) = child.items
-body_of (Kind.Decl (Decl.TsInterfaceDecl _ _ _ child)) = child.items
-body_of (Kind.Decl (Decl.TsModuleBlock child)) = child.items
-body_of _ = []
+abbrev pub body_children_of : Kind → List ℕ
+body_children_of (Kind.Item (Item.Program child)) = child.items
+body_children_of (Kind.Decl (Decl.Class _ _ _ _ child)) = child.items
+body_children_of (Kind.Decl (Decl.TsInterfaceDecl _ _ _ child)) = child.items
+body_children_of (Kind.Decl (Decl.TsModuleBlock child)) = child.items
+body_children_of _ = []
 
-abbrev pub specifiers_of : Kind → List ℕ
-specifiers_of (Kind.Item (Item.Import child _)) = child.items
-specifiers_of (Kind.Item (Item.ExportNamed child _)) = child.items
-specifiers_of _ = []
+abbrev pub specifier_children_of : Kind → List ℕ
+specifier_children_of (Kind.Item (Item.Import child _)) = child.items
+specifier_children_of (Kind.Item (Item.ExportNamed child _)) = child.items
+specifier_children_of _ = []
 
-abbrev pub local_of : Kind → Option ℕ
-local_of (Kind.Item (Item.ImportNamed child _)) = Some child
-local_of (Kind.Item (Item.ImportDefault child)) = Some child
-local_of (Kind.Item (Item.ImportNamespace child)) = Some child
-local_of (Kind.Item (Item.ExportDefaultSpecifier child)) = Some child
-local_of _ = None
+abbrev pub local_child_of : Kind → Option ℕ
+local_child_of (Kind.Item (Item.ImportNamed child _)) = Some child
+local_child_of (Kind.Item (Item.ImportDefault child)) = Some child
+local_child_of (Kind.Item (Item.ImportNamespace child)) = Some child
+local_child_of (Kind.Item (Item.ExportDefaultSpecifier child)) = Some child
+local_child_of _ = None
 
-abbrev pub decl_of : Kind → Option ℕ
-decl_of (Kind.Item (Item.ExportDecl child)) = Some child
-decl_of (Kind.Item (Item.ExportDefaultDecl child)) = Some child
-decl_of _ = None
+abbrev pub decl_child_of : Kind → Option ℕ
+decl_child_of (Kind.Item (Item.ExportDecl child)) = Some child
+decl_child_of (Kind.Item (Item.ExportDefaultDecl child)) = Some child
+decl_child_of _ = None
 
-abbrev pub orig_of : Kind → Option ℕ
-orig_of (Kind.Item (Item.ExportSpecifier child _)) = Some child
-orig_of _ = None
+abbrev pub orig_child_of : Kind → Option ℕ
+orig_child_of (Kind.Item (Item.ExportSpecifier child _)) = Some child
+orig_child_of _ = None
 
-abbrev pub expr_of : Kind → Option ℕ
-expr_of (Kind.Item (Item.ExportDefaultExpr child)) = Some child
-expr_of (Kind.Item (Item.TsExportAssignment child)) = Some child
-expr_of (Kind.Item (Item.ExprStmt child)) = Some child
-expr_of (Kind.Ty (Ty.TsExprWithTypeArgs child _)) = Some child
-expr_of (Kind.Ty (Ty.TsAsExpr child _)) = Some child
-expr_of (Kind.Ty (Ty.TsTypeAssertion child _)) = Some child
-expr_of (Kind.Expr (Expr.Computed child)) = Some child
-expr_of (Kind.Pat (Pat.ExprPat child)) = Some child
-expr_of _ = None
+abbrev pub expr_child_of : Kind → Option ℕ
+expr_child_of (Kind.Item (Item.ExportDefaultExpr child)) = Some child
+expr_child_of (Kind.Item (Item.TsExportAssignment child)) = Some child
+expr_child_of (Kind.Item (Item.ExprStmt child)) = Some child
+expr_child_of (Kind.Ty (Ty.TsExprWithTypeArgs child _)) = Some child
+expr_child_of (Kind.Ty (Ty.TsAsExpr child _)) = Some child
+expr_child_of (Kind.Ty (Ty.TsTypeAssertion child _)) = Some child
+expr_child_of (Kind.Expr (Expr.Computed child)) = Some child
+expr_child_of (Kind.Pat (Pat.ExprPat child)) = Some child
+expr_child_of _ = None
 
-abbrev pub id_of : Kind → Option ℕ
-id_of (Kind.Item (Item.TsImportEqualsDecl _ child _ _)) = Some child
-id_of (Kind.Decl (Decl.TsInterfaceDecl child _ _ _)) = Some child
-id_of (Kind.Decl (Decl.TsTypeAliasDecl child _ _)) = Some child
-id_of (Kind.Decl (Decl.TsEnumDecl child _)) = Some child
-id_of (Kind.Decl (Decl.TsModuleDecl child _ _)) = Some child
-id_of (Kind.Decl (Decl.TsNamespaceDecl child _)) = Some child
-id_of _ = None
+abbrev pub id_child_of : Kind → Option ℕ
+id_child_of (Kind.Item (Item.TsImportEqualsDecl _ child _ _)) = Some child
+id_child_of (Kind.Decl (Decl.TsInterfaceDecl child _ _ _)) = Some child
+id_child_of (Kind.Decl (Decl.TsTypeAliasDecl child _ _)) = Some child
+id_child_of (Kind.Decl (Decl.TsEnumDecl child _)) = Some child
+id_child_of (Kind.Decl (Decl.TsModuleDecl child _ _)) = Some child
+id_child_of (Kind.Decl (Decl.TsNamespaceDecl child _)) = Some child
+id_child_of _ = None
 
-abbrev pub entity_of : Kind → Option ℕ
-entity_of (Kind.Item (Item.TsImportEqualsDecl _ _ child _)) = child
-entity_of _ = None
+abbrev pub entity_child_of : Kind → Option ℕ
+entity_child_of (Kind.Item (Item.TsImportEqualsDecl _ _ child _)) = child
+entity_child_of _ = None
 
-abbrev pub ident_of : Kind → Option ℕ
-ident_of (Kind.Decl (Decl.ClassDecl child _)) = Some child
-ident_of (Kind.Decl (Decl.ClassExpr child _)) = child
-ident_of (Kind.Decl (Decl.FnDecl child _)) = Some child
-ident_of (Kind.Decl (Decl.FnExpr child _)) = child
-ident_of _ = None
+abbrev pub ident_child_of : Kind → Option ℕ
+ident_child_of (Kind.Decl (Decl.ClassDecl child _)) = Some child
+ident_child_of (Kind.Decl (Decl.ClassExpr child _)) = child
+ident_child_of (Kind.Decl (Decl.FnDecl child _)) = Some child
+ident_child_of (Kind.Decl (Decl.FnExpr child _)) = child
+ident_child_of _ = None
 
-abbrev pub class_of : Kind → Option ℕ
-class_of (Kind.Decl (Decl.ClassDecl _ child)) = Some child
-class_of (Kind.Decl (Decl.ClassExpr _ child)) = Some child
-class_of _ = None
+abbrev pub class_child_of : Kind → Option ℕ
+class_child_of (Kind.Decl (Decl.ClassDecl _ child)) = Some child
+class_child_of (Kind.Decl (Decl.ClassExpr _ child)) = Some child
+class_child_of _ = None
 
-abbrev pub type_params_of : Kind → Option ℕ
-type_params_of (Kind.Decl (Decl.Class child _ _ _ _)) = child
-type_params_of (Kind.Decl (Decl.Function child _ _ _)) = child
-type_params_of (Kind.Decl (Decl.TsInterfaceDecl _ child _ _)) = child
-type_params_of (Kind.Decl (Decl.TsTypeAliasDecl _ child _)) = child
-type_params_of (Kind.Member (Member.TsCallSignatureDecl child _ _)) = child
-type_params_of (Kind.Member (Member.TsConstructSignatureDecl child _ _)) = child
-type_params_of (Kind.Member (Member.TsMethodSignature _ _ child _ _)) = child
-type_params_of (Kind.Expr (Expr.Arrow child _ _ _ _)) = child
-type_params_of _ = None
+abbrev pub type_params_child_of : Kind → Option ℕ
+type_params_child_of (Kind.Decl (Decl.Class child _ _ _ _)) = child
+type_params_child_of (Kind.Decl (Decl.Function child _ _ _)) = child
+type_params_child_of (Kind.Decl (Decl.TsInterfaceDecl _ child _ _)) = child
+type_params_child_of (Kind.Decl (Decl.TsTypeAliasDecl _ child _)) = child
+type_params_child_of (Kind.Member (Member.TsCallSignatureDecl child _ _)) = child
+type_params_child_of (Kind.Member (Member.TsConstructSignatureDecl child _ _)) = child
+type_params_child_of (Kind.Member (Member.TsMethodSignature _ _ child _ _)) = child
+type_params_child_of (Kind.Expr (Expr.Arrow child _ _ _ _)) = child
+type_params_child_of _ = None
 
-abbrev pub super_class_of : Kind → Option ℕ
-super_class_of (Kind.Decl (Decl.Class _ child _ _ _)) = child
-super_class_of _ = None
+abbrev pub super_class_child_of : Kind → Option ℕ
+super_class_child_of (Kind.Decl (Decl.Class _ child _ _ _)) = child
+super_class_child_of _ = None
 
-abbrev pub super_type_params_of : Kind → Option ℕ
-super_type_params_of (Kind.Decl (Decl.Class _ _ child _ _)) = child
-super_type_params_of _ = None
+abbrev pub super_type_params_child_of : Kind → Option ℕ
+super_type_params_child_of (Kind.Decl (Decl.Class _ _ child _ _)) = child
+super_type_params_child_of _ = None
 
-abbrev pub implements_of : Kind → List ℕ
-implements_of (Kind.Decl (Decl.Class _ _ _ child _)) = child.items
-implements_of _ = []
+abbrev pub implements_children_of : Kind → List ℕ
+implements_children_of (Kind.Decl (Decl.Class _ _ _ child _)) = child.items
+implements_children_of _ = []
 
-abbrev pub function_of : Kind → Option ℕ
-function_of (Kind.Decl (Decl.FnDecl _ child)) = Some child
-function_of (Kind.Decl (Decl.FnExpr _ child)) = Some child
-function_of (Kind.Member (Member.ClassMethod _ child _ _ _)) = Some child
-function_of _ = None
+abbrev pub function_child_of : Kind → Option ℕ
+function_child_of (Kind.Decl (Decl.FnDecl _ child)) = Some child
+function_child_of (Kind.Decl (Decl.FnExpr _ child)) = Some child
+function_child_of (Kind.Member (Member.ClassMethod _ child _ _ _)) = Some child
+function_child_of _ = None
 
-abbrev pub params_of : Kind → List ℕ
-params_of (Kind.Decl (Decl.Function _ child _ _)) = child.items
-params_of (Kind.Member (Member.Constructor child _ _)) = child.items
-params_of (Kind.Member (Member.TsIndexSignature child _ _)) = child.items
-params_of (Kind.Member (Member.TsCallSignatureDecl _ child _)) = child.items
-params_of (Kind.Member (Member.TsConstructSignatureDecl _ child _)) = child.items
-params_of (Kind.Member (Member.TsMethodSignature _ _ _ child _)) = child.items
-params_of (Kind.Ty (Ty.TsTypeParamDecl child)) = child.items
-params_of (Kind.Ty (Ty.TsTypeParamInstantiation child)) = child.items
-params_of (Kind.Expr (Expr.Arrow _ child _ _ _)) = child.items
-params_of _ = []
+abbrev pub param_children_of : Kind → List ℕ
+param_children_of (Kind.Decl (Decl.Function _ child _ _)) = child.items
+param_children_of (Kind.Member (Member.Constructor child _ _)) = child.items
+param_children_of (Kind.Member (Member.TsIndexSignature child _ _)) = child.items
+param_children_of (Kind.Member (Member.TsCallSignatureDecl _ child _)) = child.items
+param_children_of (Kind.Member (Member.TsConstructSignatureDecl _ child _)) = child.items
+param_children_of (Kind.Member (Member.TsMethodSignature _ _ _ child _)) = child.items
+param_children_of (Kind.Ty (Ty.TsTypeParamDecl child)) = child.items
+param_children_of (Kind.Ty (Ty.TsTypeParamInstantiation child)) = child.items
+param_children_of (Kind.Expr (Expr.Arrow _ child _ _ _)) = child.items
+param_children_of _ = []
 
-abbrev pub return_type_of : Kind → Option ℕ
-return_type_of (Kind.Decl (Decl.Function _ _ child _)) = child
-return_type_of (Kind.Expr (Expr.Arrow _ _ child _ _)) = child
-return_type_of _ = None
+abbrev pub return_type_child_of : Kind → Option ℕ
+return_type_child_of (Kind.Decl (Decl.Function _ _ child _)) = child
+return_type_child_of (Kind.Expr (Expr.Arrow _ _ child _ _)) = child
+return_type_child_of _ = None
 
-abbrev pub body_node_of : Kind → Option ℕ
-body_node_of (Kind.Decl (Decl.Function _ _ _ child)) = child
-body_node_of (Kind.Decl (Decl.TsModuleDecl _ _ child)) = child
-body_node_of (Kind.Decl (Decl.TsNamespaceDecl _ child)) = Some child
-body_node_of (Kind.Member (Member.Constructor _ child _)) = child
-body_node_of (Kind.Expr (Expr.Arrow _ _ _ _ child)) = Some child
-body_node_of _ = None
+abbrev pub body_child_of : Kind → Option ℕ
+body_child_of (Kind.Decl (Decl.Function _ _ _ child)) = child
+body_child_of (Kind.Decl (Decl.TsModuleDecl _ _ child)) = child
+body_child_of (Kind.Decl (Decl.TsNamespaceDecl _ child)) = Some child
+body_child_of (Kind.Member (Member.Constructor _ child _)) = child
+body_child_of (Kind.Expr (Expr.Arrow _ _ _ _ child)) = Some child
+body_child_of _ = None
 
-abbrev pub decls_of : Kind → List ℕ
-decls_of (Kind.Decl (Decl.VarDecl child)) = child.items
-decls_of (Kind.Decl (Decl.UsingDecl child)) = child.items
-decls_of _ = []
+abbrev pub decl_children_of : Kind → List ℕ
+decl_children_of (Kind.Decl (Decl.VarDecl child)) = child.items
+decl_children_of (Kind.Decl (Decl.UsingDecl child)) = child.items
+decl_children_of _ = []
 
-abbrev pub name_of : Kind → Option ℕ
-name_of (Kind.Decl (Decl.VarDeclarator child _)) = Some child
-name_of _ = None
+abbrev pub name_child_of : Kind → Option ℕ
+name_child_of (Kind.Decl (Decl.VarDeclarator child _)) = Some child
+name_child_of _ = None
 
-abbrev pub init_of : Kind → Option ℕ
-init_of (Kind.Decl (Decl.VarDeclarator _ child)) = child
-init_of (Kind.Decl (Decl.TsEnumMember child)) = child
-init_of _ = None
+abbrev pub init_child_of : Kind → Option ℕ
+init_child_of (Kind.Decl (Decl.VarDeclarator _ child)) = child
+init_child_of (Kind.Decl (Decl.TsEnumMember child)) = child
+init_child_of _ = None
 
-abbrev pub extends_of : Kind → List ℕ
-extends_of (Kind.Decl (Decl.TsInterfaceDecl _ _ child _)) = child.items
-extends_of _ = []
+abbrev pub extends_children_of : Kind → List ℕ
+extends_children_of (Kind.Decl (Decl.TsInterfaceDecl _ _ child _)) = child.items
+extends_children_of _ = []
 
-abbrev pub type_ann_of : Kind → Option ℕ
-type_ann_of (Kind.Decl (Decl.TsTypeAliasDecl _ _ child)) = Some child
-type_ann_of (Kind.Member (Member.ClassProp _ child _ _ _)) = child
-type_ann_of (Kind.Member (Member.AutoAccessor _ child _ _ _)) = child
-type_ann_of (Kind.Member (Member.TsIndexSignature _ child _)) = child
-type_ann_of (Kind.Member (Member.TsCallSignatureDecl _ _ child)) = child
-type_ann_of (Kind.Member (Member.TsConstructSignatureDecl _ _ child)) = child
-type_ann_of (Kind.Member (Member.TsPropertySignature _ _ child)) = child
-type_ann_of (Kind.Member (Member.TsGetterSignature _ _ child)) = child
-type_ann_of (Kind.Member (Member.TsMethodSignature _ _ _ _ child)) = child
-type_ann_of (Kind.Pat (Pat.BindingIdent _ child)) = child
-type_ann_of (Kind.Pat (Pat.ArrayPat _ child)) = child
-type_ann_of (Kind.Pat (Pat.ObjectPat _ child)) = child
-type_ann_of (Kind.Pat (Pat.RestPat _ child)) = child
-type_ann_of _ = None
+abbrev pub type_ann_child_of : Kind → Option ℕ
+type_ann_child_of (Kind.Decl (Decl.TsTypeAliasDecl _ _ child)) = Some child
+type_ann_child_of (Kind.Member (Member.ClassProp _ child _ _ _)) = child
+type_ann_child_of (Kind.Member (Member.AutoAccessor _ child _ _ _)) = child
+type_ann_child_of (Kind.Member (Member.TsIndexSignature _ child _)) = child
+type_ann_child_of (Kind.Member (Member.TsCallSignatureDecl _ _ child)) = child
+type_ann_child_of (Kind.Member (Member.TsConstructSignatureDecl _ _ child)) = child
+type_ann_child_of (Kind.Member (Member.TsPropertySignature _ _ child)) = child
+type_ann_child_of (Kind.Member (Member.TsGetterSignature _ _ child)) = child
+type_ann_child_of (Kind.Member (Member.TsMethodSignature _ _ _ _ child)) = child
+type_ann_child_of (Kind.Pat (Pat.BindingIdent _ child)) = child
+type_ann_child_of (Kind.Pat (Pat.ArrayPat _ child)) = child
+type_ann_child_of (Kind.Pat (Pat.ObjectPat _ child)) = child
+type_ann_child_of (Kind.Pat (Pat.RestPat _ child)) = child
+type_ann_child_of _ = None
 
-abbrev pub members_of : Kind → List ℕ
-members_of (Kind.Decl (Decl.TsEnumDecl _ child)) = child.items
-members_of _ = []
+abbrev pub member_children_of : Kind → List ℕ
+member_children_of (Kind.Decl (Decl.TsEnumDecl _ child)) = child.items
+member_children_of _ = []
 
-abbrev pub param_of : Kind → Option ℕ
-param_of (Kind.Member (Member.TsParamProp child _)) = Some child
-param_of (Kind.Member (Member.TsSetterSignature _ _ child)) = Some child
-param_of _ = None
+abbrev pub param_child_of : Kind → Option ℕ
+param_child_of (Kind.Member (Member.TsParamProp child _)) = Some child
+param_child_of (Kind.Member (Member.TsSetterSignature _ _ child)) = Some child
+param_child_of _ = None
 
-abbrev pub key_of : Kind → Option ℕ
-key_of (Kind.Member (Member.ClassMethod child _ _ _ _)) = Some child
-key_of (Kind.Member (Member.ClassProp child _ _ _ _)) = Some child
-key_of (Kind.Member (Member.AutoAccessor child _ _ _ _)) = Some child
-key_of (Kind.Member (Member.TsPropertySignature child _ _)) = Some child
-key_of (Kind.Member (Member.TsGetterSignature child _ _)) = Some child
-key_of (Kind.Member (Member.TsSetterSignature child _ _)) = Some child
-key_of (Kind.Member (Member.TsMethodSignature child _ _ _ _)) = Some child
-key_of (Kind.Pat (Pat.KeyValuePatProp child _)) = Some child
-key_of (Kind.Pat (Pat.AssignPatProp child _)) = Some child
-key_of _ = None
+abbrev pub key_child_of : Kind → Option ℕ
+key_child_of (Kind.Member (Member.ClassMethod child _ _ _ _)) = Some child
+key_child_of (Kind.Member (Member.ClassProp child _ _ _ _)) = Some child
+key_child_of (Kind.Member (Member.AutoAccessor child _ _ _ _)) = Some child
+key_child_of (Kind.Member (Member.TsPropertySignature child _ _)) = Some child
+key_child_of (Kind.Member (Member.TsGetterSignature child _ _)) = Some child
+key_child_of (Kind.Member (Member.TsSetterSignature child _ _)) = Some child
+key_child_of (Kind.Member (Member.TsMethodSignature child _ _ _ _)) = Some child
+key_child_of (Kind.Pat (Pat.KeyValuePatProp child _)) = Some child
+key_child_of (Kind.Pat (Pat.AssignPatProp child _)) = Some child
+key_child_of _ = None
 
-abbrev pub value_of : Kind → Option ℕ
-value_of (Kind.Member (Member.ClassProp _ _ child _ _)) = child
-value_of (Kind.Member (Member.AutoAccessor _ _ child _ _)) = child
-value_of (Kind.Pat (Pat.KeyValuePatProp _ child)) = Some child
-value_of (Kind.Pat (Pat.AssignPatProp _ child)) = child
-value_of _ = None
+abbrev pub value_child_of : Kind → Option ℕ
+value_child_of (Kind.Member (Member.ClassProp _ _ child _ _)) = child
+value_child_of (Kind.Member (Member.AutoAccessor _ _ child _ _)) = child
+value_child_of (Kind.Pat (Pat.KeyValuePatProp _ child)) = Some child
+value_child_of (Kind.Pat (Pat.AssignPatProp _ child)) = child
+value_child_of _ = None
 
-abbrev pub constraint_of : Kind → Option ℕ
-constraint_of (Kind.Ty (Ty.TsTypeParam child _)) = child
-constraint_of _ = None
+abbrev pub constraint_child_of : Kind → Option ℕ
+constraint_child_of (Kind.Ty (Ty.TsTypeParam child _)) = child
+constraint_child_of _ = None
 
-abbrev pub default_of : Kind → Option ℕ
-default_of (Kind.Ty (Ty.TsTypeParam _ child)) = child
-default_of _ = None
+abbrev pub default_child_of : Kind → Option ℕ
+default_child_of (Kind.Ty (Ty.TsTypeParam _ child)) = child
+default_child_of _ = None
 
-abbrev pub ty_of : Kind → Option ℕ
-ty_of (Kind.Ty (Ty.TsTypeAnn child)) = Some child
-ty_of (Kind.Ty (Ty.TsAsExpr _ child)) = Some child
-ty_of (Kind.Ty (Ty.TsTypeAssertion _ child)) = Some child
-ty_of (Kind.Ty (Ty.TsTupleElement _ child)) = Some child
-ty_of _ = None
+abbrev pub ty_child_of : Kind → Option ℕ
+ty_child_of (Kind.Ty (Ty.TsTypeAnn child)) = Some child
+ty_child_of (Kind.Ty (Ty.TsAsExpr _ child)) = Some child
+ty_child_of (Kind.Ty (Ty.TsTypeAssertion _ child)) = Some child
+ty_child_of (Kind.Ty (Ty.TsTupleElement _ child)) = Some child
+ty_child_of _ = None
 
-abbrev pub type_args_of : Kind → Option ℕ
-type_args_of (Kind.Ty (Ty.TsExprWithTypeArgs _ child)) = child
-type_args_of (Kind.Ty (Ty.TsTypeQuery _ child)) = child
-type_args_of (Kind.Ty (Ty.TsImportType _ _ child)) = child
-type_args_of _ = None
+abbrev pub type_args_child_of : Kind → Option ℕ
+type_args_child_of (Kind.Ty (Ty.TsExprWithTypeArgs _ child)) = child
+type_args_child_of (Kind.Ty (Ty.TsTypeQuery _ child)) = child
+type_args_child_of (Kind.Ty (Ty.TsImportType _ _ child)) = child
+type_args_child_of _ = None
 
-abbrev pub expr_name_of : Kind → Option ℕ
-expr_name_of (Kind.Ty (Ty.TsTypeQuery child _)) = Some child
-expr_name_of _ = None
+abbrev pub expr_name_child_of : Kind → Option ℕ
+expr_name_child_of (Kind.Ty (Ty.TsTypeQuery child _)) = Some child
+expr_name_child_of _ = None
 
-abbrev pub qualifier_of : Kind → Option ℕ
-qualifier_of (Kind.Ty (Ty.TsImportType _ child _)) = child
-qualifier_of _ = None
+abbrev pub qualifier_child_of : Kind → Option ℕ
+qualifier_child_of (Kind.Ty (Ty.TsImportType _ child _)) = child
+qualifier_child_of _ = None
 
-abbrev pub label_of : Kind → Option ℕ
-label_of (Kind.Ty (Ty.TsTupleElement child _)) = child
-label_of _ = None
+abbrev pub label_child_of : Kind → Option ℕ
+label_child_of (Kind.Ty (Ty.TsTupleElement child _)) = child
+label_child_of _ = None
 
-abbrev pub left_of : Kind → Option ℕ
-left_of (Kind.Ty (Ty.TsQualifiedName child _)) = Some child
-left_of (Kind.Expr (Expr.Assign _ child _)) = Some child
-left_of (Kind.Pat (Pat.AssignPat child _)) = Some child
-left_of _ = None
+abbrev pub left_child_of : Kind → Option ℕ
+left_child_of (Kind.Ty (Ty.TsQualifiedName child _)) = Some child
+left_child_of (Kind.Expr (Expr.Assign _ child _)) = Some child
+left_child_of (Kind.Pat (Pat.AssignPat child _)) = Some child
+left_child_of _ = None
 
-abbrev pub obj_of : Kind → Option ℕ
-obj_of (Kind.Expr (Expr.Member child _)) = Some child
-obj_of _ = None
+abbrev pub obj_child_of : Kind → Option ℕ
+obj_child_of (Kind.Expr (Expr.Member child _)) = Some child
+obj_child_of _ = None
 
-abbrev pub prop_of : Kind → Option ℕ
-prop_of (Kind.Expr (Expr.Member _ child)) = Some child
-prop_of _ = None
+abbrev pub prop_child_of : Kind → Option ℕ
+prop_child_of (Kind.Expr (Expr.Member _ child)) = Some child
+prop_child_of _ = None
 
-abbrev pub right_of : Kind → Option ℕ
-right_of (Kind.Expr (Expr.Assign _ _ child)) = Some child
-right_of (Kind.Pat (Pat.AssignPat _ child)) = Some child
-right_of _ = None
+abbrev pub right_child_of : Kind → Option ℕ
+right_child_of (Kind.Expr (Expr.Assign _ _ child)) = Some child
+right_child_of (Kind.Pat (Pat.AssignPat _ child)) = Some child
+right_child_of _ = None
 
-abbrev pub elems_of : Kind → List ℕ
-elems_of (Kind.Pat (Pat.ArrayPat child _)) = child.items
-elems_of _ = []
+abbrev pub elem_children_of : Kind → List ℕ
+elem_children_of (Kind.Pat (Pat.ArrayPat child _)) = child.items
+elem_children_of _ = []
 
-abbrev pub props_of : Kind → List ℕ
-props_of (Kind.Pat (Pat.ObjectPat child _)) = child.items
-props_of _ = []
+abbrev pub prop_children_of : Kind → List ℕ
+prop_children_of (Kind.Pat (Pat.ObjectPat child _)) = child.items
+prop_children_of _ = []
 
-abbrev pub arg_of : Kind → Option ℕ
-arg_of (Kind.Pat (Pat.RestPat child _)) = Some child
-arg_of _ = None
+abbrev pub arg_child_of : Kind → Option ℕ
+arg_child_of (Kind.Pat (Pat.RestPat child _)) = Some child
+arg_child_of _ = None
 
 abbrev pub children_field_of : Kind → List ℕ
 children_field_of (Kind.Pat (Pat.Plain child)) = child.items

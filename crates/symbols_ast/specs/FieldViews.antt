@@ -12,14 +12,14 @@ pub record FieldView : Type 0 where
   pub category : Category
   pub children : List ℕ
 
-abbrev pub one_field : Category → ℕ → FieldView
-one_field category child = record { category = category; children = child ∷ [] }
+abbrev pub field_of_one_child : Category → ℕ → FieldView
+field_of_one_child category child = record { category = category; children = child ∷ [] }
 
-abbrev pub optional_field : Category → Option ℕ → FieldView
-optional_field category child = record { category = category; children = option_to_list child }
+abbrev pub field_of_optional_child : Category → Option ℕ → FieldView
+field_of_optional_child category child = record { category = category; children = option_to_list child }
 
-abbrev pub many_field : Category → List ℕ → FieldView
-many_field category children = record { category = category; children = children }
+abbrev pub field_of_children : Category → List ℕ → FieldView
+field_of_children category children = record { category = category; children = children }
 
 -- The numbers of the children in a field.
 abbrev pub children_view : Children → List ℕ

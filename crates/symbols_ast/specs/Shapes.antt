@@ -10,14 +10,14 @@ use Rattle.symbols_ast.specs.declared.tree.kinds.Member.TheVariants as Member
 use Rattle.symbols_ast.specs.declared.tree.kinds.Pat.TheVariants as Pat
 use Rattle.symbols_ast.specs.declared.tree.kinds.Expr.TheVariants as Expr
 use Rattle.symbols_ast.specs.Names.{kind_name}
-use Rattle.symbols_ast.specs.Categories.{allows}
+use Rattle.symbols_ast.specs.Categories.{category_allows_kind}
 use Rattle.symbols_ast.specs.FieldViews.{FieldView}
 use Rattle.symbols_ast.specs.Fields.{fields}
 use Rattle.symbols_ast.specs.Nodes.{kind_at}
 
 -- Node n exists, and the category doesn't allow its kind.
 abbrev pub is_misplaced_child : List Node → Category → ℕ → Bool
-is_misplaced_child nodes category n = option_map_or (λ kind. not (allows category (kind_name kind))) (kind_at nodes n) false
+is_misplaced_child nodes category n = option_map_or (λ kind. not (category_allows_kind category (kind_name kind))) (kind_at nodes n) false
 
 -- A child in the field has a kind that the field doesn't allow.
 abbrev pub field_has_misplaced_child : List Node → FieldView → Bool
@@ -35,10 +35,10 @@ is_binding_ident (Kind.Pat (Pat.BindingIdent _ _)) = true
 is_binding_ident _ = false
 
 -- An export specifier that needs a `from`: a namespace, or a name that is a string.
-abbrev pub needs_from_clause : List Node → Kind → Bool
-needs_from_clause nodes (Kind.Item (Item.ExportNamespace _)) = true
-needs_from_clause nodes (Kind.Item (Item.ExportSpecifier orig _)) = option_map_or is_string_literal (kind_at nodes orig) false
-needs_from_clause nodes _ = false
+abbrev pub export_specifier_needs_from_clause : List Node → Kind → Bool
+export_specifier_needs_from_clause nodes (Kind.Item (Item.ExportNamespace _)) = true
+export_specifier_needs_from_clause nodes (Kind.Item (Item.ExportSpecifier orig _)) = option_map_or is_string_literal (kind_at nodes orig) false
+export_specifier_needs_from_clause nodes _ = false
 
 -- A pattern with a default whose left is no identifier.
 abbrev pub is_destructuring_with_default : List Node → Kind → Bool
@@ -49,7 +49,7 @@ is_destructuring_with_default nodes _ = false
 abbrev pub breaks_rule_of_its_kind : List Node → Kind → Bool
 breaks_rule_of_its_kind nodes (Kind.Item (Item.ExportDefaultSpecifier _)) = true
 breaks_rule_of_its_kind nodes (Kind.Item (Item.ExportNamed specifiers None)) =
-    list_any (λ n. option_map_or (needs_from_clause nodes) (kind_at nodes n) false) specifiers.items
+    list_any (λ n. option_map_or (export_specifier_needs_from_clause nodes) (kind_at nodes n) false) specifiers.items
 breaks_rule_of_its_kind nodes (Kind.Item (Item.TsImportEqualsDecl _ _ None None)) = true
 breaks_rule_of_its_kind nodes (Kind.Item (Item.TsImportEqualsDecl _ _ (Some _) (Some _))) = true
 breaks_rule_of_its_kind nodes (Kind.Member (Member.TsParamProp param _)) = option_map_or (is_destructuring_with_default nodes) (kind_at nodes param) false

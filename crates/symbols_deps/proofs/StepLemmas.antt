@@ -14,10 +14,10 @@ use Rattle.symbols_nodes.specs.declared.deps.dep.ReferenceNamespace.{ReferenceNa
 use Rattle.symbols_nodes.specs.declared.deps.dep.SymbolNodeDep.{SymbolNodeDep}
 use Rattle.symbols_deps.specs.Annotations.{has_type_annotation}
 use Rattle.symbols_deps.specs.DepPaths.{ReferenceGraphVertex, ReferenceGraphStep, DependencyOccurrence, occurrences_at_vertex, prepend_step, path_length_bound}
-use Rattle.symbols_deps.specs.Dependencies.{step_to_child_of_kind, step_along_edge, step_to_child, steps_of_edge}
-use Rattle.symbols_deps.specs.Dependencies.{steps_along_edges, steps_from_vertex_of_kind, steps_from, start_edge_steps, dependency_of_occurrence}
+use Rattle.symbols_deps.specs.Dependencies.{step_to_child_of_kind, step_to_child_node, step_to_child_number, steps_to_children_of_edge}
+use Rattle.symbols_deps.specs.Dependencies.{steps_to_children_of_edges, steps_from_vertex_of_kind, steps_from, start_edge_steps, dependency_of_occurrence}
 use Rattle.symbols_deps.specs.EdgeRules.{FieldEdges}
-use Rattle.symbols_deps.specs.EdgeTable.{edges_from, start_edges_of_kind}
+use Rattle.symbols_deps.specs.EdgeTable.{edges_of_node_in_context, start_edges_of_kind}
 use Rattle.symbols_nodes.specs.Readings.{node_of_greater_number}
 use Rattle.symbols_nodes.specs.References.{SymbolReference, NamespacedReference, reference_view, namespaced_reference_view, reference_of_node}
 use Rattle.symbols_deps.specs.inner.References.{dependency_in_namespace}
@@ -63,7 +63,7 @@ kind_below node child edge (Some kind) step below is =
     subst (λ (s : ReferenceGraphStep). IsBelow node s.to.node) (some_injective (step_to_child_of_kind edge child kind) step is) below
 
 step_below : (node : TreeNode) (edge : FieldEdges) (child : Option TreeNode) (step : ReferenceGraphStep) → ((c : TreeNode) → child ≡ Some c → IsBelow node c)
-    → option_and_then (step_along_edge edge) child ≡ Some step → IsBelow node step.to.node
+    → option_and_then (step_to_child_node edge) child ≡ Some step → IsBelow node step.to.node
 step_below node edge None step below is = absurd (let no : ⊥ = cc in no)
 step_below node edge (Some child) step below is = kind_below node child edge (kind_of child) step (below child refl) is
 
@@ -71,11 +71,11 @@ all_below_at : (vertex : ReferenceGraphVertex) (kind : Option Kind)
     → All (λ (s : ReferenceGraphStep). IsBelow vertex.node s.to.node) (option_map_or (steps_from_vertex_of_kind vertex) kind [])
 all_below_at vertex None = All-nil (λ (s : ReferenceGraphStep). IsBelow vertex.node s.to.node)
 all_below_at vertex (Some kind) =
-    flat_map_all (λ (s : ReferenceGraphStep). IsBelow vertex.node s.to.node) (steps_of_edge vertex.node)
-    (λ edge. filter_map_all (λ (s : ReferenceGraphStep). IsBelow vertex.node s.to.node) (step_to_child vertex.node edge)
+    flat_map_all (λ (s : ReferenceGraphStep). IsBelow vertex.node s.to.node) (steps_to_children_of_edge vertex.node)
+    (λ edge. filter_map_all (λ (s : ReferenceGraphStep). IsBelow vertex.node s.to.node) (step_to_child_number vertex.node edge)
     (λ n step is. step_below vertex.node edge (node_of_greater_number vertex.node n) step (λ c e. is_below vertex.node c n e) is)
     edge.children)
-    (edges_from vertex.node vertex.form (is_some (reference_of_node vertex.node)) (has_type_annotation vertex.node) kind)
+    (edges_of_node_in_context vertex.node vertex.form (is_some (reference_of_node vertex.node)) (has_type_annotation vertex.node) kind)
 
 all_below : (vertex : ReferenceGraphVertex) → All (λ (s : ReferenceGraphStep). IsBelow vertex.node s.to.node) (steps_from vertex)
 unfolding steps_from
@@ -121,7 +121,8 @@ pub steps_from_kind : (vertex : ReferenceGraphVertex) (kind : Kind) → kind_of 
 unfolding steps_from
 steps_from_kind vertex kind is = rw is refl
 
-pub first_steps_of_kind : (node : TreeNode) (kind : Kind) → kind_of node ≡ Some kind → start_edge_steps node ≡ steps_along_edges node (start_edges_of_kind kind)
+pub first_steps_of_kind : (node : TreeNode) (kind : Kind) → kind_of node ≡ Some kind → start_edge_steps node
+    ≡ steps_to_children_of_edges node (start_edges_of_kind kind)
 unfolding start_edge_steps
 first_steps_of_kind node kind is = rw is refl
 

@@ -6,7 +6,7 @@ use Rattle.symbols_nodes.specs.declared.deps.dep.ReferenceNamespace.{ReferenceNa
 use Rattle.symbols_nodes.specs.declared.deps.dep.ResolveDepsMode.{ResolveDepsMode}
 use Rattle.symbols_deps.specs.DepPaths.{ReferenceGraphVertex, ReferenceGraphStep, is_step_followed_in_mode, ReferenceGraph, DependencyOccurrence}
 use Rattle.symbols_deps.specs.DepPaths.{AreAllDependencyOccurrencesInOrder}
-use Rattle.symbols_deps.specs.DepPaths.{occurrences_at_vertex, prepend_step, occurrences_after_steps, occurrences_within, path_length_bound}
+use Rattle.symbols_deps.specs.DepPaths.{occurrences_at_vertex, prepend_step, occurrences_after_steps, occurrences_within_steps, path_length_bound}
 use Rattle.symbols_deps.proofs.PathLists.{AreAt, at_vertex, AreAfter, before_any, after_closed, after_open, after_all}
 use Rattle.symbols_deps.proofs.StepLemmas.{IsBelow, levels_at, levels_below}
 
@@ -52,12 +52,12 @@ no_levels graph mode namespace (step ∷ steps) enough = absurd (omega arith)
 pub computed_are : (graph : ReferenceGraph) (mode : ResolveDepsMode) → GoesDown graph
     → (levels : ℕ) (namespace : ReferenceNamespace) (steps : List ReferenceGraphStep)
     → path_length_bound steps ≤ levels
-    → AreAllDependencyOccurrencesInOrder graph mode namespace steps (occurrences_within graph mode levels namespace steps)
-unfolding occurrences_within
+    → AreAllDependencyOccurrencesInOrder graph mode namespace steps (occurrences_within_steps graph mode levels namespace steps)
+unfolding occurrences_within_steps
 computed_are graph mode below zero namespace steps enough = no_levels graph mode namespace steps enough
 computed_are graph mode below (suc levels) namespace steps enough =
     let inner = λ (marked : ReferenceNamespace) (vertex : ReferenceGraphVertex). occurrences_at_vertex marked (graph.reference vertex)
-    ++ occurrences_within graph mode levels marked (graph.steps vertex) in
+    ++ occurrences_within_steps graph mode levels marked (graph.steps vertex) in
     after_all graph mode namespace steps (0 + length steps) (occurrences_after_steps mode inner namespace 0 steps) (omega arith)
     (at_steps graph mode namespace steps inner 0 steps []
     (λ k step is. let e : 0 + k ≡ k = omega arith in rw e is)
@@ -65,6 +65,6 @@ computed_are graph mode below (suc levels) namespace steps enough =
     let marked = unwrap_or step.mark namespace in
     let here = levels_at steps k step is in
     let deeper = levels_below step.to.node (graph.steps step.to) (below step.to) in
-    at_vertex graph mode marked step.to (occurrences_within graph mode levels marked (graph.steps step.to))
+    at_vertex graph mode marked step.to (occurrences_within_steps graph mode levels marked (graph.steps step.to))
     (computed_are graph mode below levels marked (graph.steps step.to) (omega arith)))
     (before_any graph mode namespace steps))

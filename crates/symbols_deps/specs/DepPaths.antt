@@ -103,11 +103,11 @@ occurrences_after_steps mode inner namespace i (step ∷ steps) =
     ++ occurrences_after_steps mode inner namespace (i + 1) steps
 
 -- The dependencies on paths of a bounded number of steps.
-unfoldable pub occurrences_within : ReferenceGraph → ResolveDepsMode → ℕ → ReferenceNamespace → List ReferenceGraphStep → List DependencyOccurrence
-occurrences_within graph mode zero namespace steps = []
-occurrences_within graph mode (suc levels) namespace steps =
+unfoldable pub occurrences_within_steps : ReferenceGraph → ResolveDepsMode → ℕ → ReferenceNamespace → List ReferenceGraphStep → List DependencyOccurrence
+occurrences_within_steps graph mode zero namespace steps = []
+occurrences_within_steps graph mode (suc levels) namespace steps =
     occurrences_after_steps mode (λ marked vertex. occurrences_at_vertex marked (graph.reference vertex)
-    ++ occurrences_within graph mode levels marked (graph.steps vertex)) namespace 0 steps
+    ++ occurrences_within_steps graph mode levels marked (graph.steps vertex)) namespace 0 steps
 
 -- A bound on the length of paths that begin with these steps: each step enters a node of a greater number.
 abbrev pub path_length_bound : List ReferenceGraphStep → ℕ

@@ -11,17 +11,17 @@ use Rattle.symbols_deps.specs.declared.rules.EdgeRuleSet.{EdgeRuleSet}
 abbrev pub default_edge_rules : EdgeRuleSet
 default_edge_rules = record { form = PatternContextRule.Usual; mark = NamespaceRule.Unmarked; guard = EdgeGuard.Open }
 
-abbrev pub with_pattern_context : PatternContextRule → EdgeRuleSet → EdgeRuleSet
-with_pattern_context form rules = record rules { form = form }
+abbrev pub edge_rules_with_pattern_context : PatternContextRule → EdgeRuleSet → EdgeRuleSet
+edge_rules_with_pattern_context form rules = record rules { form = form }
 
-abbrev pub with_namespace_rule : NamespaceRule → EdgeRuleSet → EdgeRuleSet
-with_namespace_rule mark rules = record rules { mark = mark }
+abbrev pub edge_rules_with_namespace_rule : NamespaceRule → EdgeRuleSet → EdgeRuleSet
+edge_rules_with_namespace_rule mark rules = record rules { mark = mark }
 
-abbrev pub with_guard : EdgeGuard → EdgeRuleSet → EdgeRuleSet
-with_guard guard rules = record rules { guard = guard }
+abbrev pub edge_rules_with_guard : EdgeGuard → EdgeRuleSet → EdgeRuleSet
+edge_rules_with_guard guard rules = record rules { guard = guard }
 
 abbrev pub edge_rules_marking_namespace : ReferenceNamespace → EdgeRuleSet
-edge_rules_marking_namespace namespace = with_namespace_rule (NamespaceRule.Marked namespace) default_edge_rules
+edge_rules_marking_namespace namespace = edge_rules_with_namespace_rule (NamespaceRule.Marked namespace) default_edge_rules
 
 -- The edges of one field, with the rules that they share.
 pub record FieldEdges : Type 0 where
@@ -42,5 +42,6 @@ abbrev pub edge_to_child_if : Bool → EdgeRuleSet → ℕ → FieldEdges
 edge_to_child_if condition rules child = edge_to_optional_child rules (if condition then Some child else None)
 
 -- An edge to the initializer of a pattern or a property; none if that has a type annotation.
-abbrev pub edge_to_initializer : Bool → Option ℕ → FieldEdges
-edge_to_initializer annotated value = edge_to_optional_child (with_guard EdgeGuard.Initializer default_edge_rules) (if annotated then None else value)
+abbrev pub edge_to_initializer_unless_annotated : Bool → Option ℕ → FieldEdges
+edge_to_initializer_unless_annotated annotated value = edge_to_optional_child (edge_rules_with_guard EdgeGuard.Initializer default_edge_rules)
+    (if annotated then None else value)

@@ -16,16 +16,17 @@ use Rattle.symbols_deps.specs.declared.rules.NamespaceRule.{NamespaceRule}
 use Rattle.symbols_deps.specs.declared.rules.EdgeGuard.{EdgeGuard}
 use Rattle.symbols_deps.specs.declared.rules.EdgeRuleSet.{EdgeRuleSet}
 use Rattle.symbols_deps.specs.Annotations.{is_child_pattern_annotated}
-use Rattle.symbols_deps.specs.EdgeRules.{FieldEdges, default_edge_rules, with_pattern_context, with_namespace_rule, with_guard, edge_rules_marking_namespace}
-use Rattle.symbols_deps.specs.EdgeRules.{edges_to_children, edge_to_child, edge_to_optional_child, edge_to_child_if, edge_to_initializer}
+use Rattle.symbols_deps.specs.EdgeRules.{FieldEdges, default_edge_rules, edge_rules_with_pattern_context, edge_rules_with_namespace_rule, edge_rules_with_guard}
+use Rattle.symbols_deps.specs.EdgeRules.{edge_rules_marking_namespace, edges_to_children, edge_to_child, edge_to_optional_child, edge_to_child_if}
+use Rattle.symbols_deps.specs.EdgeRules.{edge_to_initializer_unless_annotated}
 use Rattle.symbols_nodes.specs.Readings.{evaluate_node_of_greater_number}
 
 abbrev pub signature_edge_rules : EdgeRuleSet
-signature_edge_rules = with_pattern_context PatternContextRule.Signature default_edge_rules
+signature_edge_rules = edge_rules_with_pattern_context PatternContextRule.Signature default_edge_rules
 
 -- A key, which is a value if it is computed.
-abbrev pub property_key_edge_rules : EdgeRuleSet
-property_key_edge_rules = with_namespace_rule NamespaceRule.ValueIfComputed default_edge_rules
+abbrev pub value_if_computed_key_edge_rules : EdgeRuleSet
+value_if_computed_key_edge_rules = edge_rules_with_namespace_rule NamespaceRule.ValueIfComputed default_edge_rules
 
 -- The key of a property or a method of an interface, if it is in brackets.
 abbrev pub edge_to_computed_key : Bool → ℕ → FieldEdges
@@ -64,7 +65,8 @@ decl_edges node (Decl.Function type_params params return_type _) =
     ∷ edge_to_optional_child default_edge_rules return_type ∷ []
 decl_edges node (Decl.VarDecl decls) = edges_to_children default_edge_rules decls.items ∷ []
 decl_edges node (Decl.UsingDecl decls) = edges_to_children default_edge_rules decls.items ∷ []
-decl_edges node (Decl.VarDeclarator name init) = edge_to_child default_edge_rules name ∷ edge_to_initializer (is_child_pattern_annotated node name) init ∷ []
+decl_edges node (Decl.VarDeclarator name init) = edge_to_child default_edge_rules name
+    ∷ edge_to_initializer_unless_annotated (is_child_pattern_annotated node name) init ∷ []
 decl_edges node (Decl.TsInterfaceDecl _ type_params extends _) = edge_to_optional_child default_edge_rules type_params
     ∷ edges_to_children default_edge_rules extends.items ∷ []
 decl_edges node (Decl.TsTypeAliasDecl _ type_params type_ann) = edge_to_optional_child default_edge_rules type_params
@@ -77,7 +79,7 @@ decl_edges node (Decl.TsModuleBlock _) = []
 
 abbrev pub member_edges : Member → List FieldEdges
 member_edges (Member.Constructor _ _ _) = []
-member_edges (Member.TsParamProp param _) = edge_to_child (with_pattern_context PatternContextRule.Property default_edge_rules) param ∷ []
+member_edges (Member.TsParamProp param _) = edge_to_child (edge_rules_with_pattern_context PatternContextRule.Property default_edge_rules) param ∷ []
 member_edges (Member.ClassMethod _ _ _ _ _) = []
 member_edges (Member.ClassProp _ _ _ _ _) = []
 member_edges (Member.AutoAccessor _ _ _ _ _) = []
@@ -135,13 +137,14 @@ pat_edges annotated (Pat.BindingIdent _ type_ann) = edge_to_optional_child defau
 pat_edges annotated (Pat.ArrayPat _ type_ann) = edge_to_optional_child default_edge_rules type_ann ∷ []
 pat_edges annotated (Pat.ObjectPat _ type_ann) = edge_to_optional_child default_edge_rules type_ann ∷ []
 pat_edges annotated (Pat.RestPat _ type_ann) = edge_to_optional_child default_edge_rules type_ann ∷ []
-pat_edges annotated (Pat.KeyValuePatProp key value) = edge_to_child property_key_edge_rules key ∷ edge_to_child default_edge_rules value ∷ []
+pat_edges annotated (Pat.KeyValuePatProp key value) = edge_to_child value_if_computed_key_edge_rules key ∷ edge_to_child default_edge_rules value ∷ []
 pat_edges annotated (Pat.AssignPatProp key value) = edge_to_child default_edge_rules key ∷ edge_to_optional_child default_edge_rules value ∷ []
-pat_edges annotated (Pat.AssignPat left right) = edge_to_child default_edge_rules left ∷ edge_to_initializer annotated (Some right) ∷ []
-pat_edges annotated (Pat.ExprPat expr) = edge_to_child (with_guard EdgeGuard.Expressions default_edge_rules) expr ∷ []
+pat_edges annotated (Pat.AssignPat left right) = edge_to_child default_edge_rules left ∷ edge_to_initializer_unless_annotated annotated (Some right) ∷ []
+pat_edges annotated (Pat.ExprPat expr) = edge_to_child (edge_rules_with_guard EdgeGuard.Expressions default_edge_rules) expr ∷ []
 pat_edges annotated (Pat.Plain children) =
-    edges_to_children (with_pattern_context PatternContextRule.SignatureKinds (with_namespace_rule NamespaceRule.ByKind default_edge_rules)) children.items ∷ []
-pat_edges annotated (Pat.Other children) = edges_to_children (with_namespace_rule NamespaceRule.ByKind default_edge_rules) children.items ∷ []
+    edges_to_children (edge_rules_with_pattern_context PatternContextRule.SignatureKinds
+    (edge_rules_with_namespace_rule NamespaceRule.ByKind default_edge_rules)) children.items ∷ []
+pat_edges annotated (Pat.Other children) = edges_to_children (edge_rules_with_namespace_rule NamespaceRule.ByKind default_edge_rules) children.items ∷ []
 
 -- ---- edges in other forms
 
@@ -151,7 +154,7 @@ signature_pattern_edges annotated (Pat.ArrayPat elems type_ann) = edges_to_child
     ∷ edge_to_optional_child default_edge_rules type_ann
     ∷ []
 signature_pattern_edges annotated (Pat.ObjectPat props type_ann) =
-    edges_to_children (with_pattern_context PatternContextRule.SignatureRest default_edge_rules) props.items
+    edges_to_children (edge_rules_with_pattern_context PatternContextRule.SignatureRest default_edge_rules) props.items
     ∷ edge_to_optional_child default_edge_rules type_ann ∷ []
 signature_pattern_edges annotated (Pat.RestPat arg type_ann) = edge_to_child default_edge_rules arg ∷ edge_to_optional_child default_edge_rules type_ann ∷ []
 signature_pattern_edges annotated pat = pat_edges annotated pat
@@ -179,23 +182,24 @@ pat_edges_by_context node PatternContext.Property annotated pat = param_prop_edg
 
 -- The edges of a node that is entered in a form. `refers` says that it is a reference itself, `annotated` that it is a pattern with an
 -- annotation.
-abbrev pub edges_from : TreeNode → PatternContext → Bool → Bool → Kind → List FieldEdges
-edges_from node form refers annotated (Kind.Item item) = item_edges item
-edges_from node form refers annotated (Kind.Decl decl) = decl_edges node decl
-edges_from node form refers annotated (Kind.Member member) = member_edges member
-edges_from node form refers annotated (Kind.Ty ty) = ty_edges ty
-edges_from node form refers annotated (Kind.Expr expr) = expr_edges refers expr
-edges_from node form refers annotated (Kind.Pat pat) = pat_edges_by_context node form annotated pat
+abbrev pub edges_of_node_in_context : TreeNode → PatternContext → Bool → Bool → Kind → List FieldEdges
+edges_of_node_in_context node form refers annotated (Kind.Item item) = item_edges item
+edges_of_node_in_context node form refers annotated (Kind.Decl decl) = decl_edges node decl
+edges_of_node_in_context node form refers annotated (Kind.Member member) = member_edges member
+edges_of_node_in_context node form refers annotated (Kind.Ty ty) = ty_edges ty
+edges_of_node_in_context node form refers annotated (Kind.Expr expr) = expr_edges refers expr
+edges_of_node_in_context node form refers annotated (Kind.Pat pat) = pat_edges_by_context node form annotated pat
 
 -- ---- where the visit of a declaration begins, if not at its node's own edges
 
 abbrev pub start_edges_of_kind : Kind → List FieldEdges
 start_edges_of_kind (Kind.Item (Item.ExportDefaultExpr expr)) = edge_to_child default_edge_rules expr ∷ []
 start_edges_of_kind (Kind.Member (Member.Constructor params _ _)) = edges_to_children default_edge_rules params.items ∷ []
-start_edges_of_kind (Kind.Member (Member.ClassMethod key _ _ _ _)) = edge_to_child (with_guard EdgeGuard.Expressions property_key_edge_rules) key ∷ []
+start_edges_of_kind (Kind.Member (Member.ClassMethod key _ _ _ _)) = edge_to_child
+    (edge_rules_with_guard EdgeGuard.Expressions value_if_computed_key_edge_rules) key ∷ []
 start_edges_of_kind (Kind.Member (Member.ClassProp key type_ann value _ _)) =
-    edge_to_child (with_guard EdgeGuard.Expressions property_key_edge_rules) key ∷ edge_to_optional_child default_edge_rules type_ann
-    ∷ edge_to_initializer (is_some type_ann) value ∷ []
+    edge_to_child (edge_rules_with_guard EdgeGuard.Expressions value_if_computed_key_edge_rules) key ∷ edge_to_optional_child default_edge_rules type_ann
+    ∷ edge_to_initializer_unless_annotated (is_some type_ann) value ∷ []
 start_edges_of_kind (Kind.Member (Member.AutoAccessor _ type_ann _ _ _)) = edge_to_optional_child default_edge_rules type_ann ∷ []
-start_edges_of_kind (Kind.Expr (Expr.Assign _ _ right)) = edge_to_child (with_guard EdgeGuard.Expressions default_edge_rules) right ∷ []
+start_edges_of_kind (Kind.Expr (Expr.Assign _ _ right)) = edge_to_child (edge_rules_with_guard EdgeGuard.Expressions default_edge_rules) right ∷ []
 start_edges_of_kind _ = []

@@ -3,16 +3,15 @@
 ghost use Rattle.std.specs.Prelude.{◌≡◌, ◌++◌, map, OnOk, Some, is_some};
 ghost use Rattle.symbols_ast.specs.NodeRefs.{node_view, kind_of};
 ghost use Rattle.symbols_deps.specs.Annotations.{has_type_annotation};
-ghost use Rattle.symbols_deps.specs.EdgeTable.{signature_edge_rules, property_key_edge_rules};
-ghost use Rattle.symbols_deps.specs.EdgeTable.{decl_edges, member_edges};
-ghost use Rattle.symbols_deps.specs.EdgeTable.{ty_edges, expr_edges};
-ghost use Rattle.symbols_deps.specs.EdgeTable.{edges_from, start_edges_of_kind};
+ghost use Rattle.symbols_deps.specs.EdgeTable.{signature_edge_rules, value_if_computed_key_edge_rules, decl_edges};
+ghost use Rattle.symbols_deps.specs.EdgeTable.{member_edges, ty_edges, expr_edges, edges_of_node_in_context};
+ghost use Rattle.symbols_deps.specs.EdgeTable.{start_edges_of_kind};
 ghost use Rattle.symbols_deps.specs.inner.KnownFacts.{IsKnownFactTrueOf, IsExprNode};
 ghost use Rattle.symbols_nodes.specs.References.{namespaced_reference_view, reference_of_node};
 ghost use Rattle.symbols_deps.specs.inner.TableParts.{other_decl_edges, function_edges};
 ghost use Rattle.symbols_deps.specs.inner.TableParts.{class_edges, keyed_type_element_edges};
-ghost use Rattle.symbols_deps.specs.inner.TableParts.{other_member_edges, initializer_edge_rules};
-ghost use Rattle.symbols_deps.specs.inner.TableParts.{type_part_edge_rules};
+ghost use Rattle.symbols_deps.specs.inner.TableParts.{other_member_edges, edge_rules_with_initializer_guard};
+ghost use Rattle.symbols_deps.specs.inner.TableParts.{type_part_edge_rules_by_child_kind};
 
 use crate::annotations::is_child_pattern_annotated;
 use crate::known::{KnownFact, known_of_object};
@@ -32,21 +31,21 @@ fn signature_edge_rules() -> EdgeRuleSet
 
 /// Returns the rules for a key, which is a value if it is computed.
 pub(crate) fn property_key_edge_rules() -> EdgeRuleSet
-    ensures { result ≡ property_key_edge_rules }
+    ensures { result ≡ value_if_computed_key_edge_rules }
 {
     EdgeRuleSet::open().with_namespace_rule(NamespaceRule::ValueIfComputed)
 }
 
 /// Returns the rules for the initializer of a variable, a property or a pattern.
 pub(crate) fn initializer_edge_rules() -> EdgeRuleSet
-    ensures { result ≡ initializer_edge_rules }
+    ensures { result ≡ edge_rules_with_initializer_guard }
 {
     EdgeRuleSet::open().with_guard(EdgeGuard::Initializer)
 }
 
 /// Returns the rules for the parts of a type.
 pub(crate) fn type_part_edge_rules() -> EdgeRuleSet
-    ensures { result ≡ type_part_edge_rules }
+    ensures { result ≡ type_part_edge_rules_by_child_kind }
 {
     EdgeRuleSet::open()
         .with_namespace_rule(NamespaceRule::ByKind)
@@ -54,7 +53,7 @@ pub(crate) fn type_part_edge_rules() -> EdgeRuleSet
 }
 
 impl<'a> Visit<'a> {
-    ghost use Rattle.symbols_deps.specs.inner.Visits.{dependencies_along_edges};
+    ghost use Rattle.symbols_deps.specs.inner.Visits.{dependencies_of_visited_edges};
 
     /// Follows the edges of variable, interface, alias and enum declarations, and of their parts.
     #[cycle(walk)]
@@ -62,7 +61,7 @@ impl<'a> Visit<'a> {
     fn visit_statement(self, decl: &Decl, found: &mut Found<'a>) -> Result<(), AllocError>
         ensures { OnOk result (map namespaced_reference_view found.new.items
             ≡ map namespaced_reference_view found.old.items
-            ++ dependencies_along_edges self.entry (other_decl_edges (node_view self.entry.node) decl.now)) }
+            ++ dependencies_of_visited_edges self.entry (other_decl_edges (node_view self.entry.node) decl.now)) }
     {
         let open = EdgeRuleSet::open();
         match decl {
@@ -106,7 +105,7 @@ impl<'a> Visit<'a> {
     fn visit_function(self, decl: &Decl, found: &mut Found<'a>) -> Result<(), AllocError>
         ensures { OnOk result (map namespaced_reference_view found.new.items
             ≡ map namespaced_reference_view found.old.items
-            ++ dependencies_along_edges self.entry (function_edges (node_view self.entry.node) decl.now)) }
+            ++ dependencies_of_visited_edges self.entry (function_edges (node_view self.entry.node) decl.now)) }
     {
         let open = EdgeRuleSet::open();
         match decl {
@@ -138,7 +137,7 @@ impl<'a> Visit<'a> {
     fn visit_class(self, decl: &Decl, found: &mut Found<'a>) -> Result<(), AllocError>
         ensures { OnOk result (map namespaced_reference_view found.new.items
             ≡ map namespaced_reference_view found.old.items
-            ++ dependencies_along_edges self.entry (class_edges (node_view self.entry.node) decl.now)) }
+            ++ dependencies_of_visited_edges self.entry (class_edges (node_view self.entry.node) decl.now)) }
     {
         let open = EdgeRuleSet::open();
         match decl {
@@ -172,7 +171,7 @@ impl<'a> Visit<'a> {
     pub(crate) fn visit_decl(self, decl: &Decl, found: &mut Found<'a>) -> Result<(), AllocError>
         ensures { OnOk result (map namespaced_reference_view found.new.items
             ≡ map namespaced_reference_view found.old.items
-            ++ dependencies_along_edges self.entry (decl_edges (node_view self.entry.node) decl.now)) }
+            ++ dependencies_of_visited_edges self.entry (decl_edges (node_view self.entry.node) decl.now)) }
     {
         match decl {
             Decl::ClassDecl { .. } | Decl::ClassExpr { .. } | Decl::Class { .. } => {
@@ -191,7 +190,7 @@ impl<'a> Visit<'a> {
     fn visit_keyed(self, member: &Member, found: &mut Found<'a>) -> Result<(), AllocError>
         ensures { OnOk result (map namespaced_reference_view found.new.items
             ≡ map namespaced_reference_view found.old.items
-            ++ dependencies_along_edges self.entry (keyed_type_element_edges member.now)) }
+            ++ dependencies_of_visited_edges self.entry (keyed_type_element_edges member.now)) }
     {
         let open = EdgeRuleSet::open();
         let value = EdgeRuleSet::marking(ReferenceNamespace::Value);
@@ -239,7 +238,7 @@ impl<'a> Visit<'a> {
     fn visit_unkeyed(self, member: &Member, found: &mut Found<'a>) -> Result<(), AllocError>
         ensures { OnOk result (map namespaced_reference_view found.new.items
             ≡ map namespaced_reference_view found.old.items
-            ++ dependencies_along_edges self.entry (other_member_edges member.now)) }
+            ++ dependencies_of_visited_edges self.entry (other_member_edges member.now)) }
     {
         let open = EdgeRuleSet::open();
         match member {
@@ -286,7 +285,7 @@ impl<'a> Visit<'a> {
     ) -> Result<(), AllocError>
         ensures { OnOk result (map namespaced_reference_view found.new.items
             ≡ map namespaced_reference_view found.old.items
-            ++ dependencies_along_edges self.entry (member_edges member.now)) }
+            ++ dependencies_of_visited_edges self.entry (member_edges member.now)) }
     {
         match member {
             Member::TsPropertySignature { .. }
@@ -302,7 +301,8 @@ impl<'a> Visit<'a> {
     #[inline(always)]
     pub(crate) fn visit_ty(self, ty: &Ty, found: &mut Found<'a>) -> Result<(), AllocError>
         ensures { OnOk result (map namespaced_reference_view found.new.items
-            ≡ map namespaced_reference_view found.old.items ++ dependencies_along_edges self.entry (ty_edges ty.now)) }
+            ≡ map namespaced_reference_view found.old.items ++ dependencies_of_visited_edges self.entry
+            (ty_edges ty.now)) }
     {
         let open = EdgeRuleSet::open();
         let of_types = EdgeRuleSet::marking(ReferenceNamespace::Type);
@@ -349,7 +349,7 @@ impl<'a> Visit<'a> {
         requires refers { refers ≡ is_some (reference_of_node (node_view self.node)) }
         ensures { OnOk result (map namespaced_reference_view found.new.items
             ≡ map namespaced_reference_view found.old.items
-            ++ dependencies_along_edges self.entry (expr_edges refers expr.now)) }
+            ++ dependencies_of_visited_edges self.entry (expr_edges refers expr.now)) }
     {
         let open = EdgeRuleSet::open();
         match expr {
@@ -397,8 +397,8 @@ impl<'a> Visit<'a> {
         requires refers { refers ≡ is_some (reference_of_node (node_view self.node)) }
         requires known { IsKnownFactTrueOf known (node_view self.node) }
         ensures { OnOk result (map namespaced_reference_view found.new.items
-            ≡ map namespaced_reference_view found.old.items ++ dependencies_along_edges self.entry
-            (edges_from (node_view self.entry.node) form refers
+            ≡ map namespaced_reference_view found.old.items ++ dependencies_of_visited_edges self.entry
+            (edges_of_node_in_context (node_view self.entry.node) form refers
             (has_type_annotation (node_view self.entry.node)) kind.now)) }
     {
         match kind {
@@ -430,7 +430,7 @@ impl<'a> Visit<'a> {
     ) -> Result<(), AllocError>
         ensures { OnOk result (map namespaced_reference_view found.new.items
             ≡ map namespaced_reference_view found.old.items
-            ++ dependencies_along_edges self.entry (start_edges_of_kind kind.now)) }
+            ++ dependencies_of_visited_edges self.entry (start_edges_of_kind kind.now)) }
     {
         let open = EdgeRuleSet::open();
         let in_expressions = property_key_edge_rules().with_guard(EdgeGuard::Expressions);

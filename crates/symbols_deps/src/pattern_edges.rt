@@ -29,7 +29,7 @@ fn asserts(node: NodeRef<'_>, expr: NodeId) -> bool
 }
 
 impl<'a> Visit<'a> {
-    ghost use Rattle.symbols_deps.specs.inner.Visits.{dependencies_along_edges};
+    ghost use Rattle.symbols_deps.specs.inner.Visits.{dependencies_of_visited_edges};
 
     /// Follows the edges of patterns, and of types and other nodes without a kind of their own.
     #[cycle(walk)]
@@ -43,7 +43,7 @@ impl<'a> Visit<'a> {
         requires kind { IsPatNode (node_view self.node) pat.now }
         requires known { IsKnownFactTrueOf known (node_view self.node) }
         ensures { OnOk result (map namespaced_reference_view found.new.items
-            ≡ map namespaced_reference_view found.old.items ++ dependencies_along_edges self.entry (pat_edges
+            ≡ map namespaced_reference_view found.old.items ++ dependencies_of_visited_edges self.entry (pat_edges
             (has_type_annotation (node_view self.entry.node)) pat.now)) }
     {
         let open = EdgeRuleSet::open();
@@ -90,7 +90,7 @@ impl<'a> Visit<'a> {
         requires kind { IsPatNode (node_view self.node) pat.now }
         requires known { IsKnownFactTrueOf known (node_view self.node) }
         ensures { OnOk result (map namespaced_reference_view found.new.items
-            ≡ map namespaced_reference_view found.old.items ++ dependencies_along_edges self.entry
+            ≡ map namespaced_reference_view found.old.items ++ dependencies_of_visited_edges self.entry
             (signature_pattern_edges
             (has_type_annotation (node_view self.entry.node)) pat.now)) }
     {
@@ -129,7 +129,7 @@ impl<'a> Visit<'a> {
         requires kind { IsPatNode (node_view self.node) pat.now }
         requires known { IsKnownFactTrueOf known (node_view self.node) }
         ensures { OnOk result (map namespaced_reference_view found.new.items
-            ≡ map namespaced_reference_view found.old.items ++ dependencies_along_edges self.entry
+            ≡ map namespaced_reference_view found.old.items ++ dependencies_of_visited_edges self.entry
             (param_prop_edges (node_view self.entry.node) (has_type_annotation (node_view self.entry.node))
             pat.now)) }
     {

@@ -3,9 +3,8 @@
 ghost use Rattle.std.specs.Prelude.{◌≡◌, map, IfOk};
 ghost use Rattle.symbols_deps.specs.DeclDependencies.{decl_dependencies};
 ghost use Rattle.symbols_deps.specs.DepPaths.{IsSubsequence};
-ghost use Rattle.symbols_deps.specs.Dependencies.{IsDependencyList, start_steps_of_decl};
-ghost use Rattle.symbols_deps.specs.Dependencies.{steps_of_exported_decl};
-ghost use Rattle.symbols_deps.specs.Dependencies.{dependencies, dependencies_of_exported_decl};
+ghost use Rattle.symbols_deps.specs.Dependencies.{AreDependenciesOfAllOccurrences, start_steps_of_decl};
+ghost use Rattle.symbols_deps.specs.Dependencies.{steps_of_exported_decl, dependencies, dependencies_of_exported_decl};
 ghost use Rattle.symbols_nodes.specs.NodeViews.{export_decl_view, symbol_node_view};
 ghost use Rattle.symbols_nodes.specs.References.{NamespacedReference, namespaced_reference_view, reference_view};
 ghost use Rattle.symbols_nodes.specs.declared.deps.dep.ResolveDepsMode.TheVariants.{TypesAndExpressions};
@@ -70,7 +69,7 @@ impl<'a> ResolveDeps<'a> for ExportDeclRef<'a> {
         alloc: Global,
         mode: ResolveDepsMode,
     ) -> Result<Vec<(SymbolNodeDep<'a>, ReferenceNamespace)>, AllocError>
-        ensures list { IfOk result (λ list. IsDependencyList mode
+        ensures list { IfOk result (λ list. AreDependenciesOfAllOccurrences mode
             (steps_of_exported_decl (export_decl_view self.now)) (map namespaced_reference_view list.items)) }
         ensures value { IfOk result (λ list. map namespaced_reference_view list.items
             ≡ dependencies_of_exported_decl mode (export_decl_view self.now)) }
@@ -104,7 +103,8 @@ impl<'a> ResolveDeps<'a> for SymbolNodeRef<'a> {
         alloc: Global,
         mode: ResolveDepsMode,
     ) -> Result<Vec<(SymbolNodeDep<'a>, ReferenceNamespace)>, AllocError>
-        ensures list { IfOk result (λ list. IsDependencyList mode (start_steps_of_decl (symbol_node_view self.now))
+        ensures list { IfOk result (λ list. AreDependenciesOfAllOccurrences mode
+            (start_steps_of_decl (symbol_node_view self.now))
             (map namespaced_reference_view list.items)) }
         ensures value { IfOk result (λ list. map namespaced_reference_view list.items
             ≡ dependencies mode (symbol_node_view self.now)) }

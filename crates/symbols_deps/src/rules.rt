@@ -4,14 +4,14 @@
 
 ghost use Rattle.std.specs.Prelude.{◌≡◌, ◌||◌, not};
 ghost use Rattle.symbols_ast.specs.declared.tree.categories.Category.TheVariants as Category;
-ghost use Rattle.symbols_ast.specs.Categories.{allows};
+ghost use Rattle.symbols_ast.specs.Categories.{category_allows_kind};
 ghost use Rattle.symbols_ast.specs.Names.{kind_name};
 ghost use Rattle.symbols_deps.specs.Dependencies.{is_computed_key, is_rest_pattern};
 ghost use Rattle.symbols_deps.specs.Dependencies.{signature_context_if};
 ghost use Rattle.symbols_deps.specs.Dependencies.{pattern_context_of, value_namespace_if};
 ghost use Rattle.symbols_deps.specs.Dependencies.{edge_namespace, is_guard_for_expressions_mode};
-ghost use Rattle.symbols_deps.specs.EdgeRules.{default_edge_rules, with_pattern_context};
-ghost use Rattle.symbols_deps.specs.EdgeRules.{with_namespace_rule, with_guard};
+ghost use Rattle.symbols_deps.specs.EdgeRules.{default_edge_rules, edge_rules_with_pattern_context};
+ghost use Rattle.symbols_deps.specs.EdgeRules.{edge_rules_with_namespace_rule, edge_rules_with_guard};
 ghost use Rattle.symbols_deps.specs.EdgeRules.{edge_rules_marking_namespace};
 ghost use Rattle.symbols_deps.specs.EdgeTable.{is_type_assertion};
 ghost use Rattle.symbols_nodes.specs.References.{visits_expressions};
@@ -90,19 +90,19 @@ impl EdgeRuleSet {
     }
 
     pub(crate) fn with_pattern_context(self, form: PatternContextRule) -> EdgeRuleSet
-        ensures { result ≡ with_pattern_context form self }
+        ensures { result ≡ edge_rules_with_pattern_context form self }
     {
         EdgeRuleSet { form, ..self }
     }
 
     pub(crate) fn with_namespace_rule(self, mark: NamespaceRule) -> EdgeRuleSet
-        ensures { result ≡ with_namespace_rule mark self }
+        ensures { result ≡ edge_rules_with_namespace_rule mark self }
     {
         EdgeRuleSet { mark, ..self }
     }
 
     pub(crate) fn with_guard(self, guard: EdgeGuard) -> EdgeRuleSet
-        ensures { result ≡ with_guard guard self }
+        ensures { result ≡ edge_rules_with_guard guard self }
     {
         EdgeRuleSet { guard, ..self }
     }
@@ -130,7 +130,7 @@ fn is_rest_pattern(kind: &Kind) -> bool
 
 /// Returns whether the kind is a type.
 fn is_type(kind: &Kind) -> bool
-    ensures { result ≡ allows Category.Type (kind_name kind.now) }
+    ensures { result ≡ category_allows_kind Category.Type (kind_name kind.now) }
 {
     matches!(
         kind,
@@ -140,7 +140,7 @@ fn is_type(kind: &Kind) -> bool
 
 /// Returns whether the kind is a pattern that may be in a signature.
 fn is_signature_pattern(kind: &Kind) -> bool
-    ensures { result ≡ allows Category.Signature (kind_name kind.now) }
+    ensures { result ≡ category_allows_kind Category.Signature (kind_name kind.now) }
 {
     matches!(
         kind,

@@ -3,11 +3,10 @@
 ghost use Rattle.std.specs.Prelude.{◌≡◌, ◌++◌, map, OnOk, [], Option};
 ghost use Rattle.std.specs.Option.{option_map, option_map_or};
 ghost use Rattle.symbols_ast.specs.NodeRefs.{TreeNode, node_view, kind_of, child_in_field};
-ghost use Rattle.symbols_ast.specs.ChildFields.{decl_of};
-ghost use Rattle.symbols_deps.specs.Dependencies.{dependencies_from_steps, steps_from_node};
-ghost use Rattle.symbols_deps.specs.Dependencies.{steps_from_function_child};
-ghost use Rattle.symbols_deps.specs.Dependencies.{steps_of_exported_decl, steps_of_default_export};
-ghost use Rattle.symbols_deps.specs.Dependencies.{start_steps_of_decl, start_edge_steps};
+ghost use Rattle.symbols_ast.specs.ChildFields.{decl_child_of};
+ghost use Rattle.symbols_deps.specs.Dependencies.{dependencies_of_all_occurrences, steps_from_node};
+ghost use Rattle.symbols_deps.specs.Dependencies.{steps_from_function_child, steps_of_exported_decl};
+ghost use Rattle.symbols_deps.specs.Dependencies.{steps_of_default_export, start_steps_of_decl, start_edge_steps};
 ghost use Rattle.symbols_nodes.specs.NodeViews.{export_decl_view, symbol_node_view};
 ghost use Rattle.symbols_nodes.specs.References.{namespaced_reference_view};
 
@@ -30,7 +29,7 @@ fn push_first<'a>(
 ) -> Result<(), AllocError>
     ensures { OnOk result (map namespaced_reference_view found.new.items
         ≡ map namespaced_reference_view found.old.items
-        ++ dependencies_from_steps mode (start_edge_steps (node_view node.entry))) }
+        ++ dependencies_of_all_occurrences mode (start_edge_steps (node_view node.entry))) }
 {
     let namespace = ReferenceNamespace::Value;
     let visit = Visit {
@@ -53,7 +52,7 @@ fn push_edges<'a>(
 ) -> Result<(), AllocError>
     ensures { OnOk result (map namespaced_reference_view found.new.items
         ≡ map namespaced_reference_view found.old.items
-        ++ dependencies_from_steps mode (steps_from_node (node_view node.entry))) }
+        ++ dependencies_of_all_occurrences mode (steps_from_node (node_view node.entry))) }
 {
     let kind = node.kind();
     let refers = reference_of_node(alloc, node, KnownFact::Nothing)?.is_some();
@@ -85,7 +84,7 @@ fn push_node<'a>(
 ) -> Result<(), AllocError>
     ensures { OnOk result (map namespaced_reference_view found.new.items
         ≡ map namespaced_reference_view found.old.items
-        ++ dependencies_from_steps mode (steps_from_node (node_view node.entry))) }
+        ++ dependencies_of_all_occurrences mode (steps_from_node (node_view node.entry))) }
 {
     let namespace = ReferenceNamespace::Value;
     let visit = Visit {
@@ -112,7 +111,7 @@ fn push_child<'a>(
 ) -> Result<(), AllocError>
     ensures { OnOk result (map namespaced_reference_view found.new.items
         ≡ map namespaced_reference_view found.old.items
-        ++ dependencies_from_steps mode (option_map_or steps_from_node (option_map node_view child.entry) [])) }
+        ++ dependencies_of_all_occurrences mode (option_map_or steps_from_node (option_map node_view child.entry) [])) }
 {
     match child {
         Some(child) => push_node(alloc, mode, child, found),
@@ -130,7 +129,7 @@ pub(crate) fn push_exported<'a>(
 ) -> Result<(), AllocError>
     ensures { OnOk result (map namespaced_reference_view found.new.items
         ≡ map namespaced_reference_view found.old.items
-        ++ dependencies_from_steps mode (steps_of_exported_decl (export_decl_view decl.entry))) }
+        ++ dependencies_of_all_occurrences mode (steps_of_exported_decl (export_decl_view decl.entry))) }
 {
     match decl {
         ExportDeclRef::Class(node) => push_child(alloc, mode, node.class(), found),
@@ -152,7 +151,7 @@ fn push_default<'a>(
     found: &mut Found<'a>,
 ) -> Result<(), AllocError>
     ensures { OnOk result (map namespaced_reference_view found.new.items
-        ≡ map namespaced_reference_view found.old.items ++ dependencies_from_steps mode (steps_of_default_export
+        ≡ map namespaced_reference_view found.old.items ++ dependencies_of_all_occurrences mode (steps_of_default_export
         (node_view decl.entry) (kind_of (node_view decl.entry)))) }
 {
     match decl.kind() {
@@ -172,9 +171,9 @@ fn push_default_of<'a>(
     found: &mut Found<'a>,
 ) -> Result<(), AllocError>
     ensures { OnOk result (map namespaced_reference_view found.new.items
-        ≡ map namespaced_reference_view found.old.items ++ dependencies_from_steps mode
+        ≡ map namespaced_reference_view found.old.items ++ dependencies_of_all_occurrences mode
         (option_map_or (λ (decl : TreeNode). steps_of_default_export decl (kind_of decl))
-        (child_in_field (node_view node.entry) decl_of) [])) }
+        (child_in_field (node_view node.entry) decl_child_of) [])) }
 {
     match node.decl() {
         Some(decl) => push_default(alloc, mode, decl, found),
@@ -191,7 +190,7 @@ fn push_method<'a>(
     found: &mut Found<'a>,
 ) -> Result<(), AllocError>
     ensures { OnOk result (map namespaced_reference_view found.new.items
-        ≡ map namespaced_reference_view found.old.items ++ dependencies_from_steps mode
+        ≡ map namespaced_reference_view found.old.items ++ dependencies_of_all_occurrences mode
         (start_edge_steps (node_view node.entry) ++ steps_from_function_child (node_view node.entry))) }
 {
     push_first(alloc, mode, node, found)?;
@@ -208,7 +207,7 @@ pub(crate) fn push_dependencies<'a>(
 ) -> Result<(), AllocError>
     ensures { OnOk result (map namespaced_reference_view found.new.items
         ≡ map namespaced_reference_view found.old.items
-        ++ dependencies_from_steps mode (start_steps_of_decl (symbol_node_view node.entry))) }
+        ++ dependencies_of_all_occurrences mode (start_steps_of_decl (symbol_node_view node.entry))) }
 {
     match node {
         SymbolNodeRef::Module(_) | SymbolNodeRef::TsNamespace(_) => Ok(()),

@@ -12,7 +12,7 @@ ghost use Rattle.symbols_deps.specs.inner.KnownFacts.{IsKnownFactTrueOf};
 ghost use Rattle.symbols_nodes.specs.Readings.{node_of_greater_number};
 ghost use Rattle.symbols_nodes.specs.References.{namespaced_reference_view, id};
 ghost use Rattle.symbols_deps.specs.inner.References.{dependency_in_namespace};
-ghost use Rattle.symbols_deps.specs.inner.TableParts.{type_part_edge_rules};
+ghost use Rattle.symbols_deps.specs.inner.TableParts.{type_part_edge_rules_by_child_kind};
 
 use crate::edge_table::type_part_edge_rules;
 use crate::known::KnownFact;
@@ -55,9 +55,8 @@ pub(crate) fn unless(condition: bool, child: Option<NodeId>) -> Option<NodeId>
 }
 
 impl<'a> Visit<'a> {
-    ghost use Rattle.symbols_deps.specs.inner.Visits.{dependencies_along_edge};
-    ghost use Rattle.symbols_deps.specs.inner.Visits.{dependencies_at_vertex};
-    ghost use Rattle.symbols_deps.specs.inner.Visits.{dependencies_at_child};
+    ghost use Rattle.symbols_deps.specs.inner.Visits.{dependencies_of_visited_edge, dependencies_at_and_after_vertex};
+    ghost use Rattle.symbols_deps.specs.inner.Visits.{dependencies_at_and_after_child};
 
     /// Appends the dependencies at and below a node of any kind, which is entered in a form.
     /// `known` is a fact about the node.
@@ -75,7 +74,7 @@ impl<'a> Visit<'a> {
         requires { IsKnownFactTrueOf known (node_view node) }
         ensures { OnOk result (map namespaced_reference_view found.new.items
             ≡ map namespaced_reference_view found.old.items
-            ++ dependencies_at_vertex mode namespace (vertex_of_node (node_view node.entry) form)) }
+            ++ dependencies_at_and_after_vertex mode namespace (vertex_of_node (node_view node.entry) form)) }
     {
         let kind = node.kind();
         let refers = push_reference(alloc, node, kind, known, namespace, found)?;
@@ -102,7 +101,7 @@ impl<'a> Visit<'a> {
     ) -> Result<(), AllocError>
         ensures { OnOk result (map namespaced_reference_view found.new.items
             ≡ map namespaced_reference_view found.old.items
-            ++ dependencies_at_vertex mode namespace (vertex_of_node (node_view node.entry) form)) }
+            ++ dependencies_at_and_after_vertex mode namespace (vertex_of_node (node_view node.entry) form)) }
     {
         let visit = Visit {
             alloc,
@@ -142,10 +141,10 @@ impl<'a> Visit<'a> {
         ensures below { IfSome result (λ child. self.entry.node.number < child.node.number) }
         ensures same_tree { IfSome result
             (λ child. child.node.tree.now ≡ self.entry.node.tree.now) }
-        ensures closed { result ≡ None → dependencies_along_edge self.entry (edge_to_child rules id) ≡ [] }
+        ensures closed { result ≡ None → dependencies_of_visited_edge self.entry (edge_to_child rules id) ≡ [] }
         ensures reaches { IfSome result
-            (λ child. dependencies_along_edge self.entry (edge_to_child rules id) ≡
-            dependencies_at_child self.entry.mode child) }
+            (λ child. dependencies_of_visited_edge self.entry (edge_to_child rules id) ≡
+            dependencies_at_and_after_child self.entry.mode child) }
     {
         let Some(node) = node_of_greater_number(self.node, id) else {
             return None;
@@ -167,8 +166,8 @@ impl<'a> Visit<'a> {
     #[inline(always)]
     fn only_name(self, parts: &[NodeId]) -> Option<(&'a Id, ReferenceNamespace)>
         ensures { IfSome result
-            (λ name. dependencies_along_edge self.entry
-            (edges_to_children type_part_edge_rules parts.now)
+            (λ name. dependencies_of_visited_edge self.entry
+            (edges_to_children type_part_edge_rules_by_child_kind parts.now)
             ≡ dependency_in_namespace name.1 (id (id_view name.0.now)) ∷ []) }
     {
         if parts.len() != 1 {
@@ -186,7 +185,7 @@ impl<'a> Visit<'a> {
     /// it is neither.
     #[inline(always)]
     fn only_name_at(self, form: PatternContext) -> Option<(&'a Id, ReferenceNamespace)>
-        ensures { IfSome result (λ name. dependencies_at_vertex self.entry.mode self.entry.namespace
+        ensures { IfSome result (λ name. dependencies_at_and_after_vertex self.entry.mode self.entry.namespace
             (vertex_of_node (node_view self.entry.node) form)
             ≡ dependency_in_namespace name.1 (id (id_view name.0.now)) ∷ []) }
     {
@@ -206,7 +205,8 @@ impl<'a> Visit<'a> {
     #[inline(always)]
     fn visit_at(self, child: Child<'a>, found: &mut Found<'a>) -> Result<(), AllocError>
         ensures { OnOk result (map namespaced_reference_view found.new.items
-            ≡ map namespaced_reference_view found.old.items ++ dependencies_at_child self.entry.mode child.entry) }
+            ≡ map namespaced_reference_view found.old.items ++ dependencies_at_and_after_child self.entry.mode
+            child.entry) }
     {
         let Child {
             node,
@@ -242,7 +242,7 @@ impl<'a> Visit<'a> {
         requires { (child : TreeNode) → node_of_greater_number (node_view self.node) id ≡ Some child
             → IsKnownFactTrueOf known child }
         ensures { OnOk result (map namespaced_reference_view found.new.items
-            ≡ map namespaced_reference_view found.old.items ++ dependencies_along_edge self.entry
+            ≡ map namespaced_reference_view found.old.items ++ dependencies_of_visited_edge self.entry
             (edge_to_child rules id)) }
     {
         let Some(child) = self.open_child(rules, id) else {
@@ -266,7 +266,7 @@ impl<'a> Visit<'a> {
         found: &mut Found<'a>,
     ) -> Result<(), AllocError>
         ensures { OnOk result (map namespaced_reference_view found.new.items
-            ≡ map namespaced_reference_view found.old.items ++ dependencies_along_edge self.entry
+            ≡ map namespaced_reference_view found.old.items ++ dependencies_of_visited_edge self.entry
             (edge_to_child rules id)) }
     {
         match self.open_child(rules, id) {
@@ -281,7 +281,7 @@ impl<'a> Visit<'a> {
     pub(crate) fn visit_type(self, ty: NodeId, found: &mut Found<'a>) -> Result<(), AllocError>
         ensures { OnOk result (map namespaced_reference_view found.new.items
             ≡ map namespaced_reference_view found.old.items
-            ++ dependencies_along_edge self.entry (edge_to_child (edge_rules_marking_namespace In.Type) ty)) }
+            ++ dependencies_of_visited_edge self.entry (edge_to_child (edge_rules_marking_namespace In.Type) ty)) }
     {
         self.visit_child(EdgeRuleSet::marking(ReferenceNamespace::Type), ty, found)
     }
@@ -297,7 +297,7 @@ impl<'a> Visit<'a> {
         found: &mut Found<'a>,
     ) -> Result<(), AllocError>
         ensures { OnOk result (map namespaced_reference_view found.new.items
-            ≡ map namespaced_reference_view found.old.items ++ dependencies_along_edge self.entry
+            ≡ map namespaced_reference_view found.old.items ++ dependencies_of_visited_edge self.entry
             (edge_to_child rules id)) }
     {
         let Some(child) = self.open_child(rules, id) else {
@@ -328,7 +328,7 @@ impl<'a> Visit<'a> {
         found: &mut Found<'a>,
     ) -> Result<(), AllocError>
         ensures { OnOk result (map namespaced_reference_view found.new.items
-            ≡ map namespaced_reference_view found.old.items ++ dependencies_along_edge self.entry
+            ≡ map namespaced_reference_view found.old.items ++ dependencies_of_visited_edge self.entry
             (edge_to_optional_child rules id)) }
     {
         match id {
@@ -347,7 +347,7 @@ impl<'a> Visit<'a> {
     ) -> Result<(), AllocError>
         ensures { OnOk result (map namespaced_reference_view found.new.items
             ≡ map namespaced_reference_view found.old.items
-            ++ dependencies_along_edge self.entry (edge_to_optional_child default_edge_rules id)) }
+            ++ dependencies_of_visited_edge self.entry (edge_to_optional_child default_edge_rules id)) }
     {
         let Some(id) = id else {
             return Ok(());
@@ -380,7 +380,7 @@ impl<'a> Visit<'a> {
     ) -> Result<(), AllocError>
         ensures { OnOk result (map namespaced_reference_view found.new.items
             ≡ map namespaced_reference_view found.old.items
-            ++ dependencies_along_edge self.entry (edges_to_children rules ids.now)) }
+            ++ dependencies_of_visited_edge self.entry (edges_to_children rules ids.now)) }
     {
         for id in ids {
             self.visit_item(rules, *id, found)?;

@@ -12,8 +12,8 @@ use Rattle.std.proofs.lemmas.Map.Keys.{apart_from_distinct, IsDistinct-push}
 use Rattle.std.proofs.Math.ListN.{get_or-map}
 use Rattle.symbols_ast.specs.declared.ids.SymbolId.{SymbolId}
 use Rattle.symbols_ast.specs.Graph.{GraphView}
-use Rattle.symbols_table.specs.Changes.{exports_after, export_insertions_after}
-use Rattle.symbols_root.specs.GraphModules.{changes_of_module}
+use Rattle.symbols_table.specs.Changes.{exports_after_changes, export_insertions_after_changes}
+use Rattle.symbols_root.specs.GraphModules.{table_changes_of_module}
 use Rattle.symbols_exports.specs.StarStatements.{explicit_exports_of}
 use Rattle.symbols_exports.proofs.FirstOfEachName.{ExplicitOnce}
 
@@ -93,23 +93,23 @@ one_value entries once name s t has_s has_t =
 
 -- a symbol exports no name twice
 pub exported_once : (graph : GraphView) (u : List ℕ) (s : SymbolId)
-    → IsDistinct bytes_eq (map (λ (x : Setting). x.0) (exports_after (changes_of_module graph u) s))
-unfolding exports_after names_of
-exported_once graph u s = once_all (export_insertions_after (changes_of_module graph u) s) [] nothing_twice
+    → IsDistinct bytes_eq (map (λ (x : Setting). x.0) (exports_after_changes (table_changes_of_module graph u) s))
+unfolding exports_after_changes names_of
+exported_once graph u s = once_all (export_insertions_after_changes (table_changes_of_module graph u) s) [] nothing_twice
 
 -- a module exports each name locally for one symbol
 pub exports_once : (graph : GraphView) → ExplicitOnce (explicit_exports_of graph)
-unfolding exports_after
+unfolding exports_after_changes
 exports_once graph u name s t has_s has_t =
-    let settings = export_insertions_after (changes_of_module graph u) (record { 0 = 0 }) in
+    let settings = export_insertions_after_changes (table_changes_of_module graph u) (record { 0 = 0 }) in
     one_value (insert_all bytes_eq [] settings) (once_all settings [] nothing_twice) name s t has_s has_t
 
 -- and at one index
 pub explicit_cursor : (graph : GraphView) (u : List ℕ) (i j : ℕ) (d : List ℕ × SymbolId) → i < length (explicit_exports_of graph u)
     → j < length (explicit_exports_of graph u) → (get_or (explicit_exports_of graph u) i d).0 ≡ (get_or (explicit_exports_of graph u) j d).0 → i ≡ j
-unfolding exports_after names_of
+unfolding exports_after_changes names_of
 explicit_cursor graph u i j d i_in j_in same =
-    let settings = export_insertions_after (changes_of_module graph u) (record { 0 = 0 }) in
+    let settings = export_insertions_after_changes (table_changes_of_module graph u) (record { 0 = 0 }) in
     let entries : List Setting = insert_all bytes_eq [] settings in
     let counted : length (map (λ (x : Setting). x.0) entries) ≡ length entries = length-map entries (λ (x : Setting). x.0) in
     let at_i : get_or (map (λ (x : Setting). x.0) entries) i [] ≡ (get_or entries i d).0 =

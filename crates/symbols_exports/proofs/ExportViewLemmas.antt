@@ -9,11 +9,11 @@ use Rattle.symbols_ast.specs.declared.ids.ModuleId.{ModuleId}
 use Rattle.symbols_ast.specs.declared.ids.SymbolId.{SymbolId}
 use Rattle.symbols_ast.specs.Graph.{GraphView}
 use Rattle.symbols_table.specs.Events.{default_export_name}
-use Rattle.symbols_root.specs.Roots.{RootView, with_stored_module}
+use Rattle.symbols_root.specs.Roots.{RootView, root_with_stored_module}
 use Rattle.symbols_exports.specs.Chains.{star_target_at, chain_end_module}
 use Rattle.symbols_exports.specs.StarStatements.{star_targets_of}
 use Rattle.symbols_exports.specs.CollectedNames.{ResolvedExportView}
-use Rattle.symbols_exports.specs.inner.Collecting.{has_name, has_statements, with_name, with_names}
+use Rattle.symbols_exports.specs.inner.Collecting.{is_name_collected, has_star_statements, names_with_export, names_with_exports}
 use Rattle.symbols_exports.specs.ExportViews.{StarStatementView, star_statement_view, chain_statements, star_statement_by_specifier}
 use Rattle.symbols_exports.specs.ExportViews.{export_by_specifier, AreReferrersOfStarsStored, AreModulesOfExportStored, AreModulesOfExportsStored}
 use Rattle.symbols_exports.proofs.IdsInGrownRoots.{number_retained, still_within, same_under}
@@ -68,10 +68,11 @@ names_push root names name are is i d i_in = elim (short_or_last names name i i_
 pub collected_numbered : (root : RootView) (re_exports : List (ModuleId × List ℕ)) (exporter : ModuleId) → AreReferrersOfStarsStored root re_exports
     → exporter.0
     < length root.stored → (exported : List (List ℕ × SymbolId)) (names : List ResolvedExportView) → AreModulesOfExportsStored root names
-    → AreModulesOfExportsStored root (with_names re_exports exporter exported names)
+    → AreModulesOfExportsStored root (names_with_exports re_exports exporter exported names)
 collected_numbered root re_exports exporter trace_in exporter_in [] names are = are
 collected_numbered root re_exports exporter trace_in exporter_in (x ∷ exported) names are = collected_numbered root re_exports exporter trace_in exporter_in
-    exported (with_name re_exports exporter names x) (by ((bytes_eq x.0 default_export_name && has_statements re_exports) || has_name names x.0))
+    exported (names_with_export re_exports exporter names x)
+    (by ((bytes_eq x.0 default_export_name && has_star_statements re_exports) || is_name_collected names x.0))
   where
     by : (b : Bool) → AreModulesOfExportsStored root (if b then names
         else names ++ record { name = x.0; statements = re_exports; export = record { «module» = exporter; symbol_id = x.1 } } ∷ [])
@@ -83,18 +84,18 @@ collected_numbered root re_exports exporter trace_in exporter_in (x ∷ exported
 
 module _ (root : RootView) (needed : Option (List ℕ)) where
   pub statements_retained : (statements : List (ModuleId × List ℕ)) → AreReferrersOfStarsStored root statements
-      → map (star_statement_by_specifier (with_stored_module root needed)) statements ≡ map (star_statement_by_specifier root) statements
-  statements_retained statements are = same_under (star_statement_by_specifier (with_stored_module root needed)) (star_statement_by_specifier root)
+      → map (star_statement_by_specifier (root_with_stored_module root needed)) statements ≡ map (star_statement_by_specifier root) statements
+  statements_retained statements are = same_under (star_statement_by_specifier (root_with_stored_module root needed)) (star_statement_by_specifier root)
       (λ (statement : ModuleId × List ℕ).
       statement.0.0 < length root.stored) (λ statement within. ap (λ (specifier : List ℕ). let viewed : StarStatementView = (specifier, statement.1) in viewed)
       (number_retained root needed statement.0 within)) statements are
 
   pub names_retained : (names : List ResolvedExportView) → AreModulesOfExportsStored root names
-      → map (export_by_specifier (with_stored_module root needed)) names ≡ map (export_by_specifier root) names
-  names_retained names are = same_under (export_by_specifier (with_stored_module root needed)) (export_by_specifier root)
+      → map (export_by_specifier (root_with_stored_module root needed)) names ≡ map (export_by_specifier root) names
+  names_retained names are = same_under (export_by_specifier (root_with_stored_module root needed)) (export_by_specifier root)
       (AreModulesOfExportStored root) one names are
     where
-      one : (name : ResolvedExportView) → AreModulesOfExportStored root name → export_by_specifier (with_stored_module root needed) name
+      one : (name : ResolvedExportView) → AreModulesOfExportStored root name → export_by_specifier (root_with_stored_module root needed) name
           ≡ export_by_specifier root name
       one name is = λ i. record {
         name = name.name;
@@ -104,10 +105,11 @@ module _ (root : RootView) (needed : Option (List ℕ)) where
       }
 
   pub numbered_still : (statements : List (ModuleId × List ℕ)) → AreReferrersOfStarsStored root statements
-      → AreReferrersOfStarsStored (with_stored_module root needed) statements
+      → AreReferrersOfStarsStored (root_with_stored_module root needed) statements
   numbered_still statements are i d within = still_within root needed (get_or statements i d).0.0 (are i d within)
 
-  pub names_still : (names : List ResolvedExportView) → AreModulesOfExportsStored root names → AreModulesOfExportsStored (with_stored_module root needed) names
+  pub names_still : (names : List ResolvedExportView) → AreModulesOfExportsStored root names → AreModulesOfExportsStored (root_with_stored_module root needed)
+      names
   names_still names are i d within =
       let is = are i d within in
       record {

@@ -8,8 +8,9 @@ use Rattle.std.proofs.lemmas.List.Elements.{filter-append}
 use Rattle.std.proofs.lemmas.Slice.Eq.{bytes_eq-Decides}
 use Rattle.std.proofs.lemmas.Bool.{not-true}
 use Rattle.symbols_exports.specs.SharedNames.{NameWithExporters}
-use Rattle.symbols_exports.specs.SharedNameLists.{grouped_by_name, has_shared_exporters, groups_with_shared_exporters, shared_names_among}
-use Rattle.symbols_exports.specs.inner.Collecting.{with_exporter, with_later_exporter}
+use Rattle.symbols_exports.specs.SharedNameLists.{grouped_by_name, has_several_exporters_first_along_star, groups_of_several_first_along_star}
+use Rattle.symbols_exports.specs.SharedNameLists.{shared_names_among}
+use Rattle.symbols_exports.specs.inner.Collecting.{groups_with_exporter, exporters_with_later_exporter}
 use Rattle.symbols_exports.proofs.SortedLists.{IsSorted, first_or_later, contains_first, contains_later}
 use Rattle.symbols_exports.proofs.SortedLists.{contains_nothing, filtered_from, contains_filtered, sorted_filter}
 
@@ -241,7 +242,8 @@ module _ {A B : Type 0} (f : A → B) (name : B → List ℕ) (is_along : B → 
       ∙ filter_mapped on_exporters (λ (g : NameWithExporters B). not (bytes_eq (name (f x)) g.name)) (grouped_by_name (λ y. name (f y)) xs) in
       λ i. record { name = name (f x); exporters = f x ∷ exporters i } ∷ rest i
 
-  shared_alike : (exporters : List A) → has_shared_exporters is_along (map f exporters) ≡ has_shared_exporters (λ x. is_along (f x)) exporters
+  shared_alike : (exporters : List A) → has_several_exporters_first_along_star is_along (map f exporters)
+      ≡ has_several_exporters_first_along_star (λ x. is_along (f x)) exporters
   shared_alike [] = refl
   shared_alike (x ∷ []) = refl
   shared_alike (x ∷ y ∷ rest) = refl
@@ -249,8 +251,9 @@ module _ {A B : Type 0} (f : A → B) (name : B → List ℕ) (is_along : B → 
   pub shared_mapped : (xs : List A) → shared_names_among name is_along (map f xs) ≡ map on_exporters
       (shared_names_among (λ x. name (f x)) (λ x. is_along (f x)) xs)
   shared_mapped xs =
-      ap (groups_with_shared_exporters is_along) (together_mapped xs)
-      ∙ (filter_mapped on_exporters (λ (g : NameWithExporters B). has_shared_exporters is_along g.exporters) (grouped_by_name (λ x. name (f x)) xs)
+      ap (groups_of_several_first_along_star is_along) (together_mapped xs)
+      ∙ (filter_mapped on_exporters (λ (g : NameWithExporters B). has_several_exporters_first_along_star is_along g.exporters)
+      (grouped_by_name (λ x. name (f x)) xs)
       ∙ ap (λ (p : NameWithExporters A → Bool). map on_exporters (filter p (grouped_by_name (λ x. name (f x)) xs))) (λ i g. shared_alike g.exporters i))
 
 -- ---- groups without later elements, where the first isn't along an `export *`
@@ -270,63 +273,65 @@ module _ {A : Type 0} (name : A → List ℕ) (is_along : A → Bool) where
       by true = refl
       by false = refl
 
-  later_shareable : (xs : List A) (x : A) → with_later_exporter is_along (shareable xs) x ≡ shareable (xs ++ x ∷ [])
+  later_shareable : (xs : List A) (x : A) → exporters_with_later_exporter is_along (shareable xs) x ≡ shareable (xs ++ x ∷ [])
   later_shareable [] x = sym (one_alone x)
   later_shareable (first ∷ xs) x = by (is_along first) refl
     where
       by : (b : Bool) → is_along first ≡ b
-          → with_later_exporter is_along (if b then first ∷ xs else first ∷ []) x ≡ (if b then first ∷ (xs ++ x ∷ []) else first ∷ [])
+          → exporters_with_later_exporter is_along (if b then first ∷ xs else first ∷ []) x ≡ (if b then first ∷ (xs ++ x ∷ []) else first ∷ [])
       by true is = rw is refl
       by false is = rw is refl
 
   exporter_shareable : (groups : List (NameWithExporters A)) (x : A)
-      → with_exporter name is_along (map shareable_group groups) x ≡ map shareable_group (with_member name groups x)
+      → groups_with_exporter name is_along (map shareable_group groups) x ≡ map shareable_group (with_member name groups x)
   exporter_shareable [] x = λ i. record { name = name x; exporters = sym (one_alone x) i } ∷ []
   exporter_shareable (group ∷ groups) x = by (bytes_eq (name x) group.name) (exporter_shareable groups x)
     where
-      by : (b : Bool) → with_exporter name is_along (map shareable_group groups) x ≡ map shareable_group (with_member name groups x)
-          → (if b then record { name = group.name; exporters = with_later_exporter is_along (shareable group.exporters) x } ∷ map shareable_group groups
-          else shareable_group group ∷ with_exporter name is_along (map shareable_group groups) x)
+      by : (b : Bool) → groups_with_exporter name is_along (map shareable_group groups) x ≡ map shareable_group (with_member name groups x)
+          → (if b then record { name = group.name; exporters = exporters_with_later_exporter is_along (shareable group.exporters) x }
+          ∷ map shareable_group groups
+          else shareable_group group ∷ groups_with_exporter name is_along (map shareable_group groups) x)
           ≡ map shareable_group (if b then record { name = group.name; exporters = group.exporters ++ x ∷ [] } ∷ groups
           else group ∷ with_member name groups x)
       by true rest = λ i. record { name = group.name; exporters = later_shareable group.exporters x i } ∷ map shareable_group groups
       by false rest = ap (λ more. shareable_group group ∷ more) rest
 
   exporters_shareable : (groups : List (NameWithExporters A)) (xs : List A)
-      → fold (with_exporter name is_along) (map shareable_group groups) xs ≡ map shareable_group (fold (with_member name) groups xs)
+      → fold (groups_with_exporter name is_along) (map shareable_group groups) xs ≡ map shareable_group (fold (with_member name) groups xs)
   exporters_shareable groups [] = refl
-  exporters_shareable groups (x ∷ xs) = ap (λ more. fold (with_exporter name is_along) more xs) (exporter_shareable groups x)
+  exporters_shareable groups (x ∷ xs) = ap (λ more. fold (groups_with_exporter name is_along) more xs) (exporter_shareable groups x)
       ∙ exporters_shareable (with_member name groups x) xs
 
   -- these groups have the same shared names
-  same_shared : (groups : List (NameWithExporters A)) → groups_with_shared_exporters is_along (map shareable_group groups)
-      ≡ groups_with_shared_exporters is_along groups
+  same_shared : (groups : List (NameWithExporters A)) → groups_of_several_first_along_star is_along (map shareable_group groups)
+      ≡ groups_of_several_first_along_star is_along groups
   same_shared [] = refl
-  same_shared (group ∷ groups) = by group.name group.exporters ∙ ap (λ more. if has_shared_exporters is_along group.exporters then group ∷ more else more)
-      (same_shared groups)
+  same_shared (group ∷ groups) = by group.name group.exporters ∙ ap (λ more. if has_several_exporters_first_along_star is_along group.exporters then group
+      ∷ more else more) (same_shared groups)
     where
       shared_after : List (NameWithExporters A)
-      shared_after = groups_with_shared_exporters is_along (map shareable_group groups)
+      shared_after = groups_of_several_first_along_star is_along (map shareable_group groups)
 
-      by : (called : List ℕ) (exporters : List A) → (if has_shared_exporters is_along (shareable exporters)
+      by : (called : List ℕ) (exporters : List A) → (if has_several_exporters_first_along_star is_along (shareable exporters)
           then record { name = called; exporters = shareable exporters } ∷ shared_after else shared_after)
-          ≡ (if has_shared_exporters is_along exporters then record { name = called; exporters = exporters } ∷ shared_after else shared_after)
+          ≡ (if has_several_exporters_first_along_star is_along exporters then record { name = called; exporters = exporters } ∷ shared_after else shared_after)
       by called [] = refl
       by called (x ∷ []) = on (is_along x)
         where
-          on : (b : Bool) → (if has_shared_exporters is_along (if b then x ∷ [] else x ∷ [])
+          on : (b : Bool) → (if has_several_exporters_first_along_star is_along (if b then x ∷ [] else x ∷ [])
               then record { name = called; exporters = if b then x ∷ [] else x ∷ [] } ∷ shared_after else shared_after) ≡ shared_after
           on true = refl
           on false = refl
       by called (x ∷ y ∷ xs) = on (is_along x) refl
         where
-          on : (b : Bool) → is_along x ≡ b → (if has_shared_exporters is_along (if b then x ∷ y ∷ xs else x ∷ [])
+          on : (b : Bool) → is_along x ≡ b → (if has_several_exporters_first_along_star is_along (if b then x ∷ y ∷ xs else x ∷ [])
               then record { name = called; exporters = if b then x ∷ y ∷ xs else x ∷ [] } ∷ shared_after else shared_after)
               ≡ (if is_along x then record { name = called; exporters = x ∷ y ∷ xs } ∷ shared_after else shared_after)
           on true is = refl
           on false is = rw is refl
 
   -- exporters added one by one have the shared names of the whole list
-  pub all_shared : (xs : List A) → groups_with_shared_exporters is_along (fold (with_exporter name is_along) [] xs) ≡ shared_names_among name is_along xs
-  all_shared xs = ap (groups_with_shared_exporters is_along) (exporters_shareable [] xs)
-      ∙ (same_shared (fold (with_member name) [] xs) ∙ ap (groups_with_shared_exporters is_along) (all_together name [] xs))
+  pub all_shared : (xs : List A) → groups_of_several_first_along_star is_along (fold (groups_with_exporter name is_along) [] xs)
+      ≡ shared_names_among name is_along xs
+  all_shared xs = ap (groups_of_several_first_along_star is_along) (exporters_shareable [] xs)
+      ∙ (same_shared (fold (with_member name) [] xs) ∙ ap (groups_of_several_first_along_star is_along) (all_together name [] xs))

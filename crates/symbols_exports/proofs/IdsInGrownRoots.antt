@@ -11,13 +11,13 @@ use Rattle.std.proofs.lemmas.List.{get_or_append_left, length-append}
 use Rattle.std.proofs.lemmas.Slice.Eq.{bytes_eq-Decides}
 use Rattle.symbols_ast.specs.declared.ids.ModuleId.{ModuleId}
 use Rattle.symbols_root.specs.Specifiers.{contains_specifier}
-use Rattle.symbols_root.specs.Roots.{RootView, with_stored_module, specifier_in, with_stored_modules}
+use Rattle.symbols_root.specs.Roots.{RootView, root_with_stored_module, specifier_in, root_with_stored_modules}
 use Rattle.symbols_exports.proofs.DistinctNames.{same_cursor}
 
 -- ---- a root that stores more
 
 -- modules that are stored later come after the others
-pub stored_after : (root : RootView) (needed : Option (List ℕ)) → (more : List (List ℕ)) × ((with_stored_module root needed).stored ≡ root.stored ++ more)
+pub stored_after : (root : RootView) (needed : Option (List ℕ)) → (more : List (List ℕ)) × ((root_with_stored_module root needed).stored ≡ root.stored ++ more)
 stored_after root None = ([], sym (append-nil root.stored))
 stored_after root (Some specifier) = by (contains_specifier root.stored specifier)
   where
@@ -28,12 +28,12 @@ stored_after root (Some specifier) = by (contains_specifier root.stored specifie
 module _ (root : RootView) (needed : Option (List ℕ)) where
   -- a number keeps its specifier
   pub number_retained : (module_id : ModuleId) → module_id.0 < length root.stored
-      → specifier_in (with_stored_module root needed) module_id ≡ specifier_in root module_id
+      → specifier_in (root_with_stored_module root needed) module_id ≡ specifier_in root module_id
   number_retained module_id within =
       let following = stored_after root needed in
       ap (λ stored. get_or stored module_id.0 []) following.1 ∙ get_or_append_left root.stored following.0 [] module_id.0 within
 
-  pub still_within : (n : ℕ) → n < length root.stored → n < length (with_stored_module root needed).stored
+  pub still_within : (n : ℕ) → n < length root.stored → n < length (root_with_stored_module root needed).stored
   still_within n within =
       let following = stored_after root needed in
       omega (arith, within, ap length following.1, length-append root.stored following.0)
@@ -47,18 +47,18 @@ same_under f g P same (x ∷ xs) holds =
     cc
 
 pub stored_one_more : (root : RootView) (specifiers : List (List ℕ)) (specifier : List ℕ)
-    → with_stored_modules root (specifiers ++ specifier ∷ []) ≡ with_stored_module (with_stored_modules root specifiers) (Some specifier)
+    → root_with_stored_modules root (specifiers ++ specifier ∷ []) ≡ root_with_stored_module (root_with_stored_modules root specifiers) (Some specifier)
 stored_one_more root [] specifier = refl
-stored_one_more root (first ∷ rest) specifier = stored_one_more (with_stored_module root (Some first)) rest specifier
+stored_one_more root (first ∷ rest) specifier = stored_one_more (root_with_stored_module root (Some first)) rest specifier
 
 pub graph_retained : (root : RootView) (specifiers : List (List ℕ))
-    → ((with_stored_modules root specifiers).graph ≡ root.graph) × ((with_stored_modules root specifiers).limits ≡ root.limits)
+    → ((root_with_stored_modules root specifiers).graph ≡ root.graph) × ((root_with_stored_modules root specifiers).limits ≡ root.limits)
 graph_retained root [] = (refl, refl)
-graph_retained root (first ∷ rest) = graph_retained (with_stored_module root (Some first)) rest
+graph_retained root (first ∷ rest) = graph_retained (root_with_stored_module root (Some first)) rest
 
-pub rules_retained : (root : RootView) (specifiers : List (List ℕ)) → (with_stored_modules root specifiers).rules ≡ root.rules
+pub rules_retained : (root : RootView) (specifiers : List (List ℕ)) → (root_with_stored_modules root specifiers).rules ≡ root.rules
 rules_retained root [] = refl
-rules_retained root (first ∷ rest) = rules_retained (with_stored_module root (Some first)) rest
+rules_retained root (first ∷ rest) = rules_retained (root_with_stored_module root (Some first)) rest
 
 -- ---- numbers and specifiers, if no module is stored twice
 

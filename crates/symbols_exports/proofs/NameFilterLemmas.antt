@@ -3,12 +3,12 @@ use Rattle.std.proofs.Common.{◌≡◌, true, false, List, [], ◌∷◌, map, 
 use Rattle.symbols_exports.specs.declared.name_filter.NameFilter.{NameFilter}
 use Rattle.symbols_exports.specs.declared.name_filter.NameFilter.TheVariants.{AllNames, OneName}
 use Rattle.symbols_exports.specs.CollectedNames.{ResolvedExportView}
-use Rattle.symbols_exports.specs.inner.NameFilter.{is_name_search_done, is_default}
+use Rattle.symbols_exports.specs.inner.NameFilter.{is_name_search_done, is_filter_for_default}
 
 -- if the name was found by this module, nothing was found before, and it isn't `default`
 pub newly_done : (name_filter : NameFilter) (names more : List ResolvedExportView) → is_name_search_done name_filter names ≡ false
     → is_name_search_done name_filter more ≡ true
-    → (names ≡ []) × (is_default name_filter ≡ false)
+    → (names ≡ []) × (is_filter_for_default name_filter ≡ false)
 newly_done AllNames names more goes done = absurd (true≢false (sym done))
 newly_done (OneName name) [] more goes done = (refl, goes)
 newly_done (OneName name) (found ∷ names) more goes done = absurd (true≢false goes)

@@ -13,9 +13,8 @@ use Rattle.symbols_table.specs.declared.info.fault.SymbolsFault.TheVariants.{Out
 use Rattle.symbols_root.specs.Roots.{RootView}
 use Rattle.symbols_exports.specs.ExportAnswers.{IsExportsCallResult, IsExportsCallFault, AreExportListsCorrectAndUnique}
 use Rattle.symbols_exports.specs.Exports.{ExportEntry}
-use Rattle.symbols_exports.specs.PublicNames.{PublicNameView, is_constructor_or_index_signature, exports_of_symbol, public_names_of_members}
-use Rattle.symbols_exports.specs.PublicNames.{public_names_with_members}
-use Rattle.symbols_exports.specs.PublicNames.{public_names_of}
+use Rattle.symbols_exports.specs.PublicNames.{ExportedNameWithMember, is_constructor_or_index_signature, exports_of_symbol, public_names_of_members}
+use Rattle.symbols_exports.specs.PublicNames.{public_names_with_members, public_names_of}
 use Rattle.symbols_exports.specs.inner.PublicNames.{IsExplicitExport, public_names_of_export}
 use Rattle.symbols_exports.specs.SharedNames.{NameWithExporters}
 use Rattle.symbols_exports.specs.StarStatements.{explicit_exports_of}
@@ -30,7 +29,7 @@ use Rattle.symbols_exports.proofs.SortedLists.{sorted_filter, first_apart, conta
 
 -- ---- none twice
 
-item_of : List ℕ → Setting → PublicNameView
+item_of : List ℕ → Setting → ExportedNameWithMember
 item_of name member = record { name = name; member = Some member.0 }
 
 -- a symbol's exports differ in their names
@@ -39,44 +38,46 @@ exported_apart graph u s = sorted_mapped (λ x y. x ≡ y → ⊥) (λ (x : Sett
     → ⊥) (map (λ (x : Setting). x.0) (exports_of_symbol graph u s))
     (AllPairs-from_IsDistinct bytes_eq-Decides (map (λ (x : Setting). x.0) (exports_of_symbol graph u s)) (exported_once graph u s)))
 
-member_is : (a b : PublicNameView) → a ≡ b → a.member ≡ b.member
-member_is a b same = ap (λ (item : PublicNameView). item.member) same
+member_is : (a b : ExportedNameWithMember) → a ≡ b → a.member ≡ b.member
+member_is a b same = ap (λ (item : ExportedNameWithMember). item.member) same
 
 -- so do the items under a name
 items_apart : (name : List ℕ) (members : List Setting) → IsSorted (λ (x y : Setting). x.0 ≡ y.0 → ⊥) members
-    → IsSorted (λ (a b : PublicNameView). a ≡ b → ⊥) (public_names_with_members name members)
+    → IsSorted (λ (a b : ExportedNameWithMember). a ≡ b → ⊥) (public_names_with_members name members)
 items_apart name members apart = (
   λ b has same. let from = mapped_from (λ (member : Setting). record { name = name; member = Some member.0 })
       (filter (λ (member : Setting). not (is_constructor_or_index_signature member.0)) members) b has in
       none-some from.0.0 (member_is (record { name = name; member = None }) b same ∙ sym (member_is (record { name = name; member = Some from.0.0 }) b from.2)),
-  sorted_map (λ (x y : Setting). x.0 ≡ y.0 → ⊥) (λ (a b : PublicNameView). a ≡ b → ⊥) (λ (member : Setting). record { name = name; member = Some member.0 })
+  sorted_map (λ (x y : Setting). x.0 ≡ y.0 → ⊥) (λ (a b : ExportedNameWithMember). a ≡ b → ⊥)
+      (λ (member : Setting). record { name = name; member = Some member.0 })
       (λ x y other same. other (same_Some x.0 y.0 (member_is (record { name = name; member = Some x.0 }) (record { name = name; member = Some y.0 }) same)))
       (filter (λ (member : Setting). not (is_constructor_or_index_signature member.0)) members)
       (sorted_filter (λ (x y : Setting). x.0 ≡ y.0 → ⊥) (λ (member : Setting). not (is_constructor_or_index_signature member.0)) members apart),
 )
 
 -- and all of them have that name
-named_so : (name : List ℕ) (members : List Setting) (a : PublicNameView) → Contains (public_names_with_members name members) a → a.name ≡ name
+named_so : (name : List ℕ) (members : List Setting) (a : ExportedNameWithMember) → Contains (public_names_with_members name members) a → a.name ≡ name
 named_so name members a has = elim (first_or_later (record { name = name; member = None }) (public_names_of_members name members) a has) [
-  | inl is ↦ sym (ap (λ (item : PublicNameView). item.name) is)
+  | inl is ↦ sym (ap (λ (item : ExportedNameWithMember). item.name) is)
   | inr later ↦ let from = mapped_from (λ (member : Setting). record { name = name; member = Some member.0 }) (filter
-      (λ (member : Setting). not (is_constructor_or_index_signature member.0)) members) a later in sym (ap (λ (item : PublicNameView). item.name) from.2)
+      (λ (member : Setting). not (is_constructor_or_index_signature member.0)) members) a later
+      in sym (ap (λ (item : ExportedNameWithMember). item.name) from.2)
 ]
 
-pub public_apart : (graph : GraphView) (start : List ℕ) → AllPairs (λ (a b : PublicNameView). a ≢ b) (public_names_of graph start)
+pub public_apart : (graph : GraphView) (start : List ℕ) → AllPairs (λ (a b : ExportedNameWithMember). a ≢ b) (public_names_of graph start)
 public_apart graph start =
-    sorted_pairs (λ (a b : PublicNameView). a ≡ b → ⊥) (public_names_of graph start)
-    (flat_sorted (λ (x y : ExportEntry). x.name ≡ y.name → ⊥) (λ (a b : PublicNameView). a ≡ b
+    sorted_pairs (λ (a b : ExportedNameWithMember). a ≡ b → ⊥) (public_names_of graph start)
+    (flat_sorted (λ (x y : ExportEntry). x.name ≡ y.name → ⊥) (λ (a b : ExportedNameWithMember). a ≡ b
     → ⊥) (λ (entry : ExportEntry). public_names_with_members entry.name (exports_of_symbol graph entry.exporter entry.symbol))
     (λ entry. items_apart entry.name (exports_of_symbol graph entry.exporter entry.symbol) (exported_apart graph entry.exporter entry.symbol))
     (λ x y other a b has_a has_b same. other (sym (named_so x.name (exports_of_symbol graph x.exporter x.symbol) a has_a)
-    ∙ (ap (λ (item : PublicNameView). item.name) same ∙ named_so y.name (exports_of_symbol graph y.exporter y.symbol) b has_b)))
+    ∙ (ap (λ (item : ExportedNameWithMember). item.name) same ∙ named_so y.name (exports_of_symbol graph y.exporter y.symbol) b has_b)))
     (exports_of graph start) (first_apart is_same_export_name (λ (entry : ExportEntry). entry.name) (λ x y. bytes_eq-Decides x.name y.name)
     (flat_map (export_candidates_at_visit (explicit_exports_of graph)) (star_walk_visits_of graph start))))
 
 -- ---- by the numbers of a root
 
-viewed_items : GraphView → ExportView → List PublicNameView
+viewed_items : GraphView → ExportView → List ExportedNameWithMember
 viewed_items graph viewed = public_names_with_members viewed.name (exports_of_symbol graph viewed.exporter viewed.symbol)
 
 pub items_viewed : (new : RootView) (graph : GraphView) (start : List ℕ) (names : List ResolvedExportView) → new.graph ≡ graph

@@ -3,7 +3,7 @@ use Rattle.std.proofs.Common.{◌≡◌, ℕ, ◌⊎◌, inl, inr, List, [], ◌
 use Rattle.std.specs.Prelude.{Contains, filter_map}
 use Rattle.symbols_ast.specs.Graph.{GraphView}
 use Rattle.symbols_exports.specs.Chains.{IsChainBefore, IsLeastChain, AreReachedByStars}
-use Rattle.symbols_exports.specs.SharedNameLists.{module_reached_by_visit, star_reached_modules_of}
+use Rattle.symbols_exports.specs.SharedNameLists.{module_reached_unless_unresolved, star_reached_modules_of}
 use Rattle.symbols_exports.specs.StarStatements.{star_targets_of}
 use Rattle.symbols_exports.specs.Traces.{StarWalkVisit, star_walk_visits_of, first_distinct_by, is_same_visit_end}
 use Rattle.symbols_exports.proofs.TraceLists.{arrives, arrival_there}
@@ -16,17 +16,17 @@ use Rattle.symbols_exports.proofs.TracesAreSimpleChains.{ComesBefore}
 
 -- ---- the arrivals of traces
 
-arrival_from : (traces : List StarWalkVisit) (m : Visit) → Contains (filter_map module_reached_by_visit traces) m
+arrival_from : (traces : List StarWalkVisit) (m : Visit) → Contains (filter_map module_reached_unless_unresolved traces) m
     → Contains traces (record { chain = m.0; end = m.1; unresolved_at = None })
 arrival_from [] m has = absurd (contains_nothing m has)
 arrival_from (w ∷ traces) m has = by w.unresolved_at refl has (arrival_from traces m)
   where
     by : (unresolved_at : Option ℕ) → w.unresolved_at ≡ unresolved_at
-        → Contains (filter_map module_reached_by_visit (record { chain = w.chain; end = w.end; unresolved_at = unresolved_at } ∷ traces)) m
-        → (Contains (filter_map module_reached_by_visit traces) m → Contains traces (record { chain = m.0; end = m.1; unresolved_at = None }))
+        → Contains (filter_map module_reached_unless_unresolved (record { chain = w.chain; end = w.end; unresolved_at = unresolved_at } ∷ traces)) m
+        → (Contains (filter_map module_reached_unless_unresolved traces) m → Contains traces (record { chain = m.0; end = m.1; unresolved_at = None }))
         → Contains (w ∷ traces) (record { chain = m.0; end = m.1; unresolved_at = None })
     by (Some k) is later rest = contains_later w traces (record { chain = m.0; end = m.1; unresolved_at = None }) (rest later)
-    by None is some rest = elim (first_or_later (w.chain, w.end) (filter_map module_reached_by_visit traces) m some) [
+    by None is some rest = elim (first_or_later (w.chain, w.end) (filter_map module_reached_unless_unresolved traces) m some) [
       | inl same ↦
           let this : w ≡ record { chain = m.0; end = m.1; unresolved_at = None } =
           (λ i. record { chain = (same i).0; end = (same i).1; unresolved_at = is i }) in
@@ -35,34 +35,34 @@ arrival_from (w ∷ traces) m has = by w.unresolved_at refl has (arrival_from tr
     ]
 
 arrives_there : (traces : List StarWalkVisit) (chain end : List ℕ) → Contains traces (record { chain = chain; end = end; unresolved_at = None })
-    → Contains {X = Visit} (filter_map module_reached_by_visit traces) (chain, end)
+    → Contains {X = Visit} (filter_map module_reached_unless_unresolved traces) (chain, end)
 arrives_there [] chain end has = absurd (contains_nothing (record { chain = chain; end = end; unresolved_at = None }) has)
 arrives_there (w ∷ traces) chain end has =
     by (first_or_later w traces (record { chain = chain; end = end; unresolved_at = None }) has) (arrives_there traces chain end)
   where
-    following : (unresolved_at : Option ℕ) → Contains {X = Visit} (filter_map module_reached_by_visit traces) (chain, end)
-        → Contains {X = Visit} (filter_map module_reached_by_visit (record { chain = w.chain; end = w.end; unresolved_at = unresolved_at } ∷ traces))
+    following : (unresolved_at : Option ℕ) → Contains {X = Visit} (filter_map module_reached_unless_unresolved traces) (chain, end)
+        → Contains {X = Visit} (filter_map module_reached_unless_unresolved (record { chain = w.chain; end = w.end; unresolved_at = unresolved_at } ∷ traces))
         (chain, end)
-    following None later = contains_later (w.chain, w.end) (filter_map module_reached_by_visit traces) (chain, end) later
+    following None later = contains_later (w.chain, w.end) (filter_map module_reached_unless_unresolved traces) (chain, end) later
     following (Some j) later = later
 
     by : (w ≡ record { chain = chain; end = end; unresolved_at = None }) ⊎ Contains traces (record { chain = chain; end = end; unresolved_at = None })
-        → (Contains traces (record { chain = chain; end = end; unresolved_at = None }) → Contains {X = Visit} (filter_map module_reached_by_visit traces)
-        (chain, end))
-        → Contains {X = Visit} (filter_map module_reached_by_visit (w ∷ traces)) (chain, end)
-    by (inl same) rest = subst (λ (x : StarWalkVisit). Contains {X = Visit} (filter_map module_reached_by_visit (x ∷ traces)) (chain, end)) (sym same)
-        (contains_first (chain, end) (filter_map module_reached_by_visit traces))
+        → (Contains traces (record { chain = chain; end = end; unresolved_at = None })
+        → Contains {X = Visit} (filter_map module_reached_unless_unresolved traces) (chain, end))
+        → Contains {X = Visit} (filter_map module_reached_unless_unresolved (w ∷ traces)) (chain, end)
+    by (inl same) rest = subst (λ (x : StarWalkVisit). Contains {X = Visit} (filter_map module_reached_unless_unresolved (x ∷ traces)) (chain, end)) (sym same)
+        (contains_first (chain, end) (filter_map module_reached_unless_unresolved traces))
     by (inr later) rest = following w.unresolved_at (rest later)
 
-arrivals_sorted : (traces : List StarWalkVisit) → IsSorted ComesBefore traces → IsSorted VisitsInOrder (filter_map module_reached_by_visit traces)
+arrivals_sorted : (traces : List StarWalkVisit) → IsSorted ComesBefore traces → IsSorted VisitsInOrder (filter_map module_reached_unless_unresolved traces)
 arrivals_sorted [] sorted = tt
 arrivals_sorted (w ∷ traces) sorted = by w.unresolved_at (arrivals_sorted traces sorted.1)
   where
-    first : (m : Visit) → Contains (filter_map module_reached_by_visit traces) m → IsChainBefore w.chain m.0
+    first : (m : Visit) → Contains (filter_map module_reached_unless_unresolved traces) m → IsChainBefore w.chain m.0
     first m has = sorted.0 (record { chain = m.0; end = m.1; unresolved_at = None }) (arrival_from traces m has)
 
-    by : (unresolved_at : Option ℕ) → IsSorted VisitsInOrder (filter_map module_reached_by_visit traces)
-        → IsSorted VisitsInOrder (filter_map module_reached_by_visit (record { chain = w.chain; end = w.end; unresolved_at = unresolved_at } ∷ traces))
+    by : (unresolved_at : Option ℕ) → IsSorted VisitsInOrder (filter_map module_reached_unless_unresolved traces)
+        → IsSorted VisitsInOrder (filter_map module_reached_unless_unresolved (record { chain = w.chain; end = w.end; unresolved_at = unresolved_at } ∷ traces))
     by None rest = (first, rest)
     by (Some k) rest = rest
 

@@ -10,9 +10,8 @@ use Rattle.symbols_table.specs.Events.{default_export_name}
 use Rattle.symbols_exports.specs.Chains.{chain_end_module, IsSimpleChain, IsChainBefore, IsLeastChain}
 use Rattle.symbols_exports.specs.Exports.{ExportEntry, IsExportCandidate, IsExport, IsExportEntryBefore}
 use Rattle.symbols_exports.specs.SharedNames.{NameWithExporters, IsExporter, HasTwoExporters, IsSharedNameEntry, IsSharedNameBefore, AreSharedNames}
-use Rattle.symbols_exports.specs.SharedNameLists.{star_reached_modules_of, export_candidates_along_chains, grouped_by_name, has_shared_exporters}
-use Rattle.symbols_exports.specs.SharedNameLists.{is_nonempty_chain}
-use Rattle.symbols_exports.specs.SharedNameLists.{shared_names_of}
+use Rattle.symbols_exports.specs.SharedNameLists.{star_reached_modules_of, export_candidates_along_chains, grouped_by_name}
+use Rattle.symbols_exports.specs.SharedNameLists.{has_several_exporters_first_along_star, is_nonempty_chain, shared_names_of}
 use Rattle.symbols_exports.specs.StarStatements.{star_targets_of, explicit_exports_of}
 use Rattle.symbols_exports.specs.Traces.{StarWalkVisit, export_candidates_along_chain}
 use Rattle.symbols_exports.proofs.DistinctNames.{exports_once}
@@ -42,7 +41,7 @@ abbrev along : ExportEntry → Bool
 along e = is_nonempty_chain e.chain
 
 -- a shared group has two elements, the first along an `export *`
-begins : (xs : List ExportEntry) → has_shared_exporters along xs ≡ true
+begins : (xs : List ExportEntry) → has_several_exporters_first_along_star along xs ≡ true
     → (x : ExportEntry) × (y : ExportEntry) × (rest : List ExportEntry) × (xs ≡ x ∷ y ∷ rest) × (is_nonempty_chain x.chain ≡ true)
 begins [] is = absurd (true≢false (sym is))
 begins (x ∷ []) is = absurd (true≢false (sym is))
@@ -51,7 +50,7 @@ begins (x ∷ y ∷ rest) is = (x, y, rest, refl, is)
 -- a group with two different elements, and the first along an `export *`, is shared
 exporters_are_different : (xs : List ExportEntry) (x y : ExportEntry) → Contains xs x → Contains xs y → (x ≡ y → ⊥) →
     ((e : ExportEntry) → Contains xs e → e.chain ≡ [] → ⊥)
-    → has_shared_exporters along xs ≡ true
+    → has_several_exporters_first_along_star along xs ≡ true
 exporters_are_different [] x y has_x has_y differ following = absurd (contains_nothing x has_x)
 exporters_are_different (a ∷ []) x y has_x has_y differ following = absurd (differ (sym (only_one a x has_x) ∙ only_one a y has_y))
 exporters_are_different (a ∷ b ∷ rest) x y has_x has_y differ following = by a.chain (following a (contains_first a (b ∷ rest)))
@@ -199,7 +198,7 @@ module _ (graph : GraphView) (start : List ℕ) where
         (sym exporter.named ∙ default)))) exporter.named
 
     -- if the group is shared
-    module _ (is : has_shared_exporters along group.exporters ≡ true) where
+    module _ (is : has_several_exporters_first_along_star along group.exporters ≡ true) where
       parts : (x : ExportEntry) × (y : ExportEntry) × (rest : List ExportEntry) × (group.exporters ≡ x ∷ y ∷ rest) × (is_nonempty_chain x.chain ≡ true)
       parts = begins group.exporters is
 
@@ -255,7 +254,7 @@ module _ (graph : GraphView) (start : List ℕ) where
   -- ---- the shared names
 
   abbrev retained : NameWithExporters ExportEntry → Bool
-  retained group = has_shared_exporters along group.exporters
+  retained group = has_several_exporters_first_along_star along group.exporters
 
   is_shared : (shared : NameWithExporters ExportEntry) → Contains (shared_names_of graph start) shared
       → IsSharedNameEntry (star_targets_of graph) (explicit_exports_of graph) start shared
@@ -286,7 +285,8 @@ module _ (graph : GraphView) (start : List ℕ) where
       in
       let has_other : Contains found.0.exporters two.other =
       subst (λ es. Contains es two.other) (sym exporters) ((they.exporters two.other).1 two.other_is_exporter) in
-      let is : has_shared_exporters along found.0.exporters ≡ true = exporters_are_different found.0.exporters two.one two.other has_one has_other (λ equal.
+      let is : has_several_exporters_first_along_star along found.0.exporters ≡ true = exporters_are_different found.0.exporters two.one two.other has_one
+      has_other (λ equal.
       two.exporters_are_different (ap (λ (e : ExportEntry). e.exporter) equal)) (following found.0 found.1 named) in
       subst (Contains (shared_names_of graph start)) same (contains_filtered retained (grouped_by_name entry_name candidates) found.0 found.1 is)
     where

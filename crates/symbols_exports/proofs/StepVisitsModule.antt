@@ -9,14 +9,14 @@ use Rattle.std.proofs.lemmas.Option.{none-some, slice_get_within, get_or_from_sl
 use Rattle.symbols_ast.specs.declared.ids.ModuleId.{ModuleId}
 use Rattle.symbols_ast.specs.Graph.{GraphView}
 use Rattle.symbols_root.specs.declared.rules.Rules.{Rules}
-use Rattle.symbols_root.specs.Roots.{RootView, with_stored_module, maybe_specifier, specifier_in, with_stored_modules}
+use Rattle.symbols_root.specs.Roots.{RootView, root_with_stored_module, maybe_specifier, specifier_in, root_with_stored_modules}
 use Rattle.symbols_exports.specs.declared.frame.Frame.{Frame}
 use Rattle.symbols_exports.specs.declared.name_filter.NameFilter.{NameFilter}
 use Rattle.symbols_exports.specs.Chains.{star_target_at}
 use Rattle.symbols_exports.specs.Exports.{ExportEntry}
 use Rattle.symbols_exports.specs.StarStatements.{star_specifiers, resolve_specifier, star_targets_of, explicit_exports_of}
 use Rattle.symbols_exports.specs.CollectedNames.{ResolvedExportView}
-use Rattle.symbols_exports.specs.inner.Collecting.{CollectedView, frame_view, with_names, with_exporters}
+use Rattle.symbols_exports.specs.inner.Collecting.{CollectedView, frame_view, names_with_exports, groups_with_exporters}
 use Rattle.symbols_exports.specs.ExportViews.{star_statement_view, chain_statements, export_view_of_entry, star_statement_by_specifier, export_by_specifier}
 use Rattle.symbols_exports.specs.ExportViews.{AreReferrersOfStarsStored, AreModulesOfExportsStored}
 use Rattle.symbols_exports.specs.inner.NameFilter.{accepted_exports_of, is_name_search_done, collects_shared}
@@ -36,7 +36,7 @@ use Rattle.symbols_exports.proofs.SortedLists.{short_or_last}
 
 -- the frames are those of the same modules in a root that stores more
 forks_retained : (root : RootView) (needed : Option (List ℕ)) (stack : List Frame) → AreReferrersOfStarsStored root (map frame_view stack)
-    → forks_in (with_stored_module root needed) stack ≡ forks_in root stack
+    → forks_in (root_with_stored_module root needed) stack ≡ forks_in root stack
 forks_retained root needed [] are = refl
 forks_retained root needed (frame ∷ stack) are =
     let first = number_retained root needed frame.referrer (are 0 (frame_view frame) (omega arith)) in
@@ -46,8 +46,8 @@ forks_retained root needed (frame ∷ stack) are =
 -- what is collected from a module of a graph
 abbrev pub module_collected : NameFilter → Rules → GraphView → List ℕ → List (ModuleId × List ℕ) → ModuleId → CollectedView → CollectedView
 module_collected name_filter rules graph specifier re_exports exporter collected = record {
-  names = with_names re_exports exporter (accepted_exports_of name_filter graph specifier) collected.names;
-  candidates = with_exporters collected.candidates
+  names = names_with_exports re_exports exporter (accepted_exports_of name_filter graph specifier) collected.names;
+  candidates = groups_with_exporters collected.candidates
       (candidates_now (collects_shared name_filter rules) re_exports exporter (explicit_exports_of graph specifier));
   unresolved = collected.unresolved;
 }
@@ -58,9 +58,9 @@ module _ {name_filter : NameFilter} {old : RootView} {start : ModuleId} {root : 
     (few_here : length (star_targets_of old.graph (specifier_in root frame.referrer)) < 2 ^ 63) (v : List ℕ)
     (ends_at : resolve_specifier old.graph (specifier_in
     root frame.referrer) frame.specifier_text.now ≡ Some v) (fresh : (c : List ℕ) → Contains walk.visited (c, v)
-    → ⊥) (entered : ModuleId) (entered_is : maybe_specifier (with_stored_module root (Some v)) entered ≡ Some v) where
+    → ⊥) (entered : ModuleId) (entered_is : maybe_specifier (root_with_stored_module root (Some v)) entered ≡ Some v) where
   abbrev pub more : RootView
-  more = with_stored_module root (Some v)
+  more = root_with_stored_module root (Some v)
 
   -- the cursor of the statement, with the frames before it
   abbrev pub here_cursor : List ℕ
@@ -113,9 +113,9 @@ module _ {name_filter : NameFilter} {old : RootView} {start : ModuleId} {root : 
       < length root.stored) (λ id within. number_retained root (Some v) id within) ids walk.inside.ids_in in
       map-append (specifier_in more) ids (entered ∷ []) ∙ (λ i. before i ++ number_is i ∷ [])
 
-  stored_too : more ≡ with_stored_modules old (map (specifier_in more) (ids ++ entered ∷ []))
-  stored_too = ap (λ (r : RootView). with_stored_module r (Some v)) walk.stored
-      ∙ (sym (stored_one_more old (map (specifier_in root) ids) v) ∙ ap (with_stored_modules old) (sym ids_are))
+  stored_too : more ≡ root_with_stored_modules old (map (specifier_in more) (ids ++ entered ∷ []))
+  stored_too = ap (λ (r : RootView). root_with_stored_module r (Some v)) walk.stored
+      ∙ (sym (stored_one_more old (map (specifier_in root) ids) v) ∙ ap (root_with_stored_modules old) (sym ids_are))
 
   ids_in_too : (i : ℕ) (d : ModuleId) → i < length (ids ++ entered ∷ []) → (get_or (ids ++ entered ∷ []) i d).0 < length more.stored
   ids_in_too i d within = elim (short_or_last ids entered i within) [
@@ -128,7 +128,7 @@ module _ {name_filter : NameFilter} {old : RootView} {start : ModuleId} {root : 
 
   names_too : (more_found : List ExportEntry) × ((next : Visit) → AreFound (accepted_exports_of name_filter old.graph) visited_too next 0 more_found)
       × (map (export_view_of_entry old.graph (specifier_in old start)) more_found ≡ map (export_by_specifier more)
-      (with_names (map frame_view (stack ++ frame ∷ [])) entered
+      (names_with_exports (map frame_view (stack ++ frame ∷ [])) entered
       (accepted_exports_of name_filter old.graph v) collected.names))
       × (walk.found ≡ [] → (entry : ExportEntry) → Contains more_found entry → entry.chain ≡ here_cursor)
   names_too = names_collected name_filter old more (specifier_in old start) walk.visited (here_cursor, v) (stack ++ frame ∷ []) entered collected.names
@@ -195,12 +195,12 @@ module _ {name_filter : NameFilter} {old : RootView} {start : ModuleId} {root : 
 
   -- if the one name was found here, nothing was found before
   breaks_off_here : is_name_search_done name_filter collected.names ≡ false
-      → is_name_search_done name_filter (with_names (map frame_view (stack ++ frame ∷ [])) entered
+      → is_name_search_done name_filter (names_with_exports (map frame_view (stack ++ frame ∷ [])) entered
       (accepted_exports_of name_filter old.graph v) collected.names) ≡ true
       → HasEnded name_filter 0 (forks_in root stack ++ fork_in root frame ∷ []) names_too.0
   breaks_off_here goes done =
       let new = newly_done name_filter collected.names
-      (with_names (map frame_view (stack ++ frame ∷ [])) entered (accepted_exports_of name_filter old.graph v) collected.names) goes done in
+      (names_with_exports (map frame_view (stack ++ frame ∷ [])) entered (accepted_exports_of name_filter old.graph v) collected.names) goes done in
       record {
         first_statement = refl;
         found_here =
@@ -235,7 +235,7 @@ module _ {name_filter : NameFilter} {old : RootView} {start : ModuleId} {root : 
     missed_are = rw (forks_are, chain_is) missed_too;
     missed_viewed = walk.missed_viewed ∙ sym (statements_retained root (Some v) collected.unresolved walk.inside.unresolved_in);
     candidate = walk.candidate ++ candidates_here;
-    candidate_are = ap (λ groups. with_exporters groups candidates_here) walk.candidate_are ∙ sym (exporters_after [] walk.candidate candidates_here);
+    candidate_are = ap (λ groups. groups_with_exporters groups candidates_here) walk.candidate_are ∙ sym (exporters_after [] walk.candidate candidates_here);
     candidate_in = candidate_in_too;
     candidate_viewed = candidate_too;
     following = walk.following ++ (specifier_in root frame.referrer, frame.position) ∷ [];

@@ -17,7 +17,7 @@ use Rattle.symbols_ast.specs.Graph.{ModuleView}
 use Rattle.symbols_table.specs.declared.info.fault.SymbolsFault.{SymbolsFault}
 use Rattle.symbols_table.specs.declared.info.fault.SymbolsFault.TheVariants.{OutOfMemory}
 use Rattle.symbols_root.specs.Specifiers.{module_with_specifier, contains_specifier}
-use Rattle.symbols_root.specs.Roots.{RootView, with_stored_module, maybe_specifier, IsStoringFault, specifier_in}
+use Rattle.symbols_root.specs.Roots.{RootView, root_with_stored_module, maybe_specifier, IsStoringFault, specifier_in}
 use Rattle.symbols_exports.specs.declared.frame.Frame.{Frame}
 use Rattle.symbols_exports.specs.declared.name_filter.NameFilter.{NameFilter}
 use Rattle.symbols_exports.specs.StarStatements.{star_specifiers, resolve_specifier, star_targets_of}
@@ -162,14 +162,14 @@ module _ {name_filter : NameFilter} {old : RootView} {start : ModuleId} {root : 
         (subst (λ g. IsStoringFault root (resolve_specifier g (specifier_in root here) specifier_text.now) fault) (walking_graph walk) refused))
 
     -- it is unresolved
-    module _ (after : RootView) (stored : after ≡ with_stored_module root (resolve_specifier root.graph (specifier_in root here) specifier_text.now))
+    module _ (after : RootView) (stored : after ≡ root_with_stored_module root (resolve_specifier root.graph (specifier_in root here) specifier_text.now))
         (gives : option_map (maybe_specifier after) None
         ≡ option_map (λ (s : List ℕ). Some s) (resolve_specifier root.graph (specifier_in root here) specifier_text.now)) where
       ends_unresolved : resolve_specifier root.graph (specifier_in root here) specifier_text.now ≡ None
       ends_unresolved = gives_none (maybe_specifier after) (resolve_specifier root.graph (specifier_in root here) specifier_text.now) gives
 
       same_root : after ≡ root
-      same_root = stored ∙ ap (with_stored_module root) ends_unresolved
+      same_root = stored ∙ ap (root_with_stored_module root) ends_unresolved
 
       pub looked_up_unresolved : is_name_search_done name_filter collected.names ≡ false → IsWalking name_filter old start after here (next
           + 1) stack ids (record collected { unresolved = collected.unresolved ++ (here, specifier_text.now) ∷ [] }) (lookups + 1)
@@ -188,7 +188,7 @@ module _ {name_filter : NameFilter} {old : RootView} {start : ModuleId} {root : 
           (next_less old.graph root here next stack ids (is_one walk specifier_text.now specifier_is))
 
     -- it resolves to a module
-    module _ (after : RootView) (stored : after ≡ with_stored_module root (resolve_specifier root.graph (specifier_in root here) specifier_text.now))
+    module _ (after : RootView) (stored : after ≡ root_with_stored_module root (resolve_specifier root.graph (specifier_in root here) specifier_text.now))
         (number : ModuleId) (gives : option_map (maybe_specifier after) (Some number)
         ≡ option_map (λ (s : List ℕ). Some s) (resolve_specifier root.graph (specifier_in root here) specifier_text.now)) where
       led : (v : List ℕ) × (resolve_specifier root.graph (specifier_in root here) specifier_text.now ≡ Some v) × (maybe_specifier after number ≡ Some v)
@@ -197,10 +197,10 @@ module _ {name_filter : NameFilter} {old : RootView} {start : ModuleId} {root : 
       ends_at : resolve_specifier old.graph (specifier_in root here) specifier_text.now ≡ Some led.0
       ends_at = subst (λ g. resolve_specifier g (specifier_in root here) specifier_text.now ≡ Some led.0) (walking_graph walk) led.1
 
-      more_is : after ≡ with_stored_module root (Some led.0)
-      more_is = stored ∙ ap (with_stored_module root) led.1
+      more_is : after ≡ root_with_stored_module root (Some led.0)
+      more_is = stored ∙ ap (root_with_stored_module root) led.1
 
-      number_under : maybe_specifier (with_stored_module root (Some led.0)) number ≡ Some led.0
+      number_under : maybe_specifier (root_with_stored_module root (Some led.0)) number ≡ Some led.0
       number_under = subst (λ (r : RootView). maybe_specifier r number ≡ Some led.0) more_is led.2
 
       pub number_in : number.0 < length after.stored
@@ -214,7 +214,7 @@ module _ {name_filter : NameFilter} {old : RootView} {start : ModuleId} {root : 
         -- the set of numbers has the module if and only if it was visited
         visited_is : list_any (is_same_module number) ids ≡ contains_specifier (visited_modules walk.visited) led.0
         visited_is =
-            let more : RootView = with_stored_module root (Some led.0) in
+            let more : RootView = root_with_stored_module root (Some led.0) in
             let within : number.0 < length more.stored = slice_get_within more.stored number.0 led.0 number_under in
             let before : map (specifier_in more) ids ≡ map (specifier_in root) ids = same_under (specifier_in more) (specifier_in root) (λ (id : ModuleId). id.0
             < length root.stored) (λ id in_root. number_retained root (Some led.0) id in_root) ids walk.inside.ids_in in
@@ -253,7 +253,7 @@ module _ {name_filter : NameFilter} {old : RootView} {start : ModuleId} {root : 
               → IsWalking name_filter old start after number 0 (stack ++ frame ∷ []) (ids
               ++ number ∷ []) (graph_with_put_module name_filter after trace_too number collected) (lookups + 1)
           looked_up_entered goes =
-              let more : RootView = with_stored_module root (Some led.0) in
+              let more : RootView = root_with_stored_module root (Some led.0) in
               let called : specifier_in more number ≡ led.0 = get_or_from_slice_get more.stored number.0 led.0 [] number_under in
               let entered = walking_entered frame walk specifier_is few_here led.0 ends_at (not_visited frame walk specifier_is few_here led.0 fresh) number
               number_under goes in

@@ -8,13 +8,13 @@ use Rattle.symbols_ast.specs.declared.ids.ModuleId.{ModuleId}
 use Rattle.symbols_ast.specs.declared.ids.SymbolId.{SymbolId}
 use Rattle.symbols_table.specs.declared.decl.symbol.Symbol.{Symbol}
 use Rattle.symbols_table.specs.declared.info.module_info.ModuleInfoRef.{ModuleInfoRef}
-use Rattle.symbols_table.specs.Changes.{parents_after, exports_after}
+use Rattle.symbols_table.specs.Changes.{parents_after_changes, exports_after_changes}
 use Rattle.symbols_table.specs.Laws.{AreLawfulSymbols}
 use Rattle.symbols_table.specs.Modules.{SymbolTable, symbol_table_of_ref}
 use Rattle.symbols_table.specs.Symbols.{symbol_module_id, symbol_export_entries}
 use Rattle.symbols_table.specs.SymbolViews.{SymbolView, symbol_view, symbol_from_changes}
 use Rattle.symbols_root.specs.Roots.{RootView, IsTableOfStoredModule, maybe_specifier, specifier_in}
-use Rattle.symbols_root.specs.GraphModules.{changes_of_module, symbol_in_module}
+use Rattle.symbols_root.specs.GraphModules.{table_changes_of_module, symbol_in_module}
 use Rattle.symbols_root.specs.laws.StoredTables.{stored_table_has_module_symbols}
 use Rattle.symbols_exports.specs.declared.export_chain.ResolvedExport.{ResolvedExport}
 use Rattle.symbols_exports.specs.ExportSymbols.{symbol_of_export}
@@ -23,17 +23,18 @@ use Rattle.symbols_exports.specs.StarStatements.{explicit_exports_of}
 -- the exports of a symbol
 pub stored_exports : (root : RootView) (module_id : ModuleId) (table : SymbolTable) (s : SymbolId) (symbol : Symbol)
     → IsTableOfStoredModule root module_id table
-    → slice_get table.symbols s.0 ≡ Some symbol → symbol_export_entries symbol ≡ exports_after (changes_of_module root.graph (specifier_in root module_id)) s
+    → slice_get table.symbols s.0 ≡ Some symbol → symbol_export_entries symbol
+    ≡ exports_after_changes (table_changes_of_module root.graph (specifier_in root module_id)) s
 stored_exports root module_id table s symbol stored at =
-    let changes = changes_of_module root.graph (specifier_in root module_id) in
-    by (slice_get (parents_after changes) s.0) (sym (ap (option_map symbol_view) at) ∙ stored_table_has_module_symbols root module_id table stored s)
+    let changes = table_changes_of_module root.graph (specifier_in root module_id) in
+    by (slice_get (parents_after_changes changes) s.0) (sym (ap (option_map symbol_view) at) ∙ stored_table_has_module_symbols root module_id table stored s)
   where
     by : (parent : Option (Option SymbolId))
-        → Some (symbol_view symbol) ≡ option_map (symbol_from_changes (changes_of_module root.graph (specifier_in root module_id))
-        s) parent → symbol_export_entries symbol ≡ exports_after (changes_of_module root.graph (specifier_in root module_id)) s
+        → Some (symbol_view symbol) ≡ option_map (symbol_from_changes (table_changes_of_module root.graph (specifier_in root module_id))
+        s) parent → symbol_export_entries symbol ≡ exports_after_changes (table_changes_of_module root.graph (specifier_in root module_id)) s
     by None none = absurd cc
     by (Some parent) same = ap (λ (view : SymbolView). view.exports)
-        (same_Some (symbol_view symbol) (symbol_from_changes (changes_of_module root.graph (specifier_in root module_id)) s parent) same)
+        (same_Some (symbol_view symbol) (symbol_from_changes (table_changes_of_module root.graph (specifier_in root module_id)) s parent) same)
 
 -- the local exports of the module are those of its symbol 0
 pub stored_table_has_module_bindings : (root : RootView) (module_id : ModuleId) (table : SymbolTable) (symbol : Symbol)

@@ -8,7 +8,7 @@ use Rattle.std.proofs.lemmas.Option.{get_or_from_slice_get, slice_get-map, same_
 use Rattle.symbols_ast.specs.declared.ids.ModuleId.{ModuleId}
 use Rattle.symbols_ast.specs.Graph.{GraphView, ModuleView, resolved_dependency}
 use Rattle.symbols_root.specs.Specifiers.{module_with_specifier}
-use Rattle.symbols_root.specs.Roots.{RootView, with_stored_module, specifier_in, with_stored_modules}
+use Rattle.symbols_root.specs.Roots.{RootView, root_with_stored_module, specifier_in, root_with_stored_modules}
 use Rattle.symbols_root.specs.TypesChains.{get_prefer_types, resolved_module_specifier}
 use Rattle.symbols_exports.specs.declared.frame.Frame.{Frame}
 use Rattle.symbols_exports.specs.declared.name_filter.NameFilter.{NameFilter}
@@ -16,10 +16,10 @@ use Rattle.symbols_exports.specs.Chains.{StarTargets, star_target_at, IsChainBef
 use Rattle.symbols_exports.specs.Exports.{ExportEntry, StarPosition}
 use Rattle.symbols_exports.specs.StarStatements.{star_specifiers, resolve_specifier, star_targets_of, explicit_exports_of}
 use Rattle.symbols_exports.specs.CollectedNames.{ResolvedExportView}
-use Rattle.symbols_exports.specs.inner.Collecting.{CollectedView, nothing_collected, frame_view, with_names, with_exporters}
+use Rattle.symbols_exports.specs.inner.Collecting.{CollectedView, nothing_collected, frame_view, names_with_exports, groups_with_exporters}
 use Rattle.symbols_exports.specs.ExportViews.{star_statement_view, chain_statements, export_view_of_entry, star_statement_by_specifier, export_by_specifier}
 use Rattle.symbols_exports.specs.ExportViews.{AreReferrersOfStarsStored, AreModulesOfExportsStored}
-use Rattle.symbols_exports.specs.inner.NameFilter.{accepted_exports_of, is_name_search_done, is_default, collects_shared}
+use Rattle.symbols_exports.specs.inner.NameFilter.{accepted_exports_of, is_name_search_done, is_filter_for_default, collects_shared}
 use Rattle.symbols_exports.proofs.Cursors.{Visit, start_alone}
 use Rattle.symbols_exports.proofs.FirstOfEachName.{AreFound, nothing_found, module_done, found_here}
 use Rattle.symbols_exports.proofs.UnresolvedSoFar.{IsThere, IsUnresolvedAt, AreSelected, retained_none}
@@ -57,13 +57,13 @@ count_visited statements visited = sum_by (λ (m : Visit). length (statements m.
 pub record HasEnded (name_filter : NameFilter) (next : ℕ) (forks : List Fork) (found : List ExportEntry) : Type 0 where
   pub first_statement : next ≡ 0
   pub found_here : (entry : ExportEntry) → Contains found entry → entry.chain ≡ chain_of forks
-  pub at_start : is_default name_filter ≡ true → forks ≡ []
+  pub at_start : is_filter_for_default name_filter ≡ true → forks ≡ []
 
 -- the state of a walk: what it has visited, found, left unresolved and collected as candidates, by the numbers of the root
 pub record IsWalking (name_filter : NameFilter) (old : RootView) (start : ModuleId) (root : RootView) (here : ModuleId) (next : ℕ) (stack : List
     Frame) (ids : List ModuleId) (collected : CollectedView) (lookups : ℕ) : Type 0 where
   pub known : start.0 < length old.stored
-  pub stored : root ≡ with_stored_modules old (map (specifier_in root) ids)
+  pub stored : root ≡ root_with_stored_modules old (map (specifier_in root) ids)
   pub inside : AreStored root here stack ids collected
   pub visited : List Visit
   pub visited_are : map (λ (m : Visit). m.1) visited ≡ map (specifier_in root) ids
@@ -77,7 +77,7 @@ pub record IsWalking (name_filter : NameFilter) (old : RootView) (start : Module
   pub missed_are : AreSelected (IsUnresolvedAt (star_targets_of old.graph)) (cursor_of (forks_in root stack) next) visited unresolved
   pub missed_viewed : map (star_statement_view old.graph) unresolved ≡ map (star_statement_by_specifier root) collected.unresolved
   pub candidate : List ResolvedExportView
-  pub candidate_are : collected.candidates ≡ with_exporters [] candidate
+  pub candidate_are : collected.candidates ≡ groups_with_exporters [] candidate
   pub candidate_in : AreModulesOfExportsStored root candidate
   pub candidate_viewed : map (export_view_of_entry old.graph (specifier_in old start)) (candidates_visited (collects_shared name_filter old.rules)
       (explicit_exports_of old.graph) visited) ≡ map (export_by_specifier root) candidate
@@ -143,7 +143,7 @@ pub names_collected : (name_filter : NameFilter) (old : RootView) (root : RootVi
     → AreFound (accepted_exports_of name_filter old.graph) visited now 0 found
     → map (export_view_of_entry old.graph start) found ≡ map (export_by_specifier root) names
     → (more : List ExportEntry) × ((next : Visit) → AreFound (accepted_exports_of name_filter old.graph) (visited ++ now ∷ []) next 0 more)
-    × (map (export_view_of_entry old.graph start) more ≡ map (export_by_specifier root) (with_names (map frame_view stack) here
+    × (map (export_view_of_entry old.graph start) more ≡ map (export_by_specifier root) (names_with_exports (map frame_view stack) here
     (accepted_exports_of name_filter old.graph now.1) names)) × (found ≡ [] → (entry : ExportEntry) → Contains more entry → entry.chain ≡ now.0)
 names_collected name_filter old root start visited now stack here names found following re_exports at_here are viewed =
     let exported = accepted_exports_of name_filter old.graph now.1 in
@@ -158,7 +158,7 @@ names_collected name_filter old root start visited now stack here names found fo
 
 -- before the first module
 pub walking_first : (name_filter : NameFilter) (old : RootView) (start : ModuleId) → start.0 < length old.stored
-    → with_stored_module old (Some (specifier_in old start)) ≡ old
+    → root_with_stored_module old (Some (specifier_in old start)) ≡ old
     → IsWalking name_filter old start old start 0 [] (start ∷ []) (graph_with_put_module name_filter old [] start nothing_collected) 0
 walking_first name_filter old start known is_stored =
     let s0 = specifier_in old start in

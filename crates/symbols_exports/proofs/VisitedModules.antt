@@ -12,7 +12,7 @@ use Rattle.std.proofs.lemmas.Slice.Eq.{bytes_eq-Decides}
 use Rattle.std.proofs.Math.ListN.{get_or-map}
 use Rattle.symbols_ast.specs.declared.ids.ModuleId.{ModuleId}
 use Rattle.symbols_root.specs.Specifiers.{contains_specifier}
-use Rattle.symbols_root.specs.Roots.{RootView, with_stored_module, specifier_in}
+use Rattle.symbols_root.specs.Roots.{RootView, root_with_stored_module, specifier_in}
 use Rattle.symbols_exports.proofs.Cursors.{Visit}
 
 -- the visited modules
@@ -47,11 +47,12 @@ among_stored root (id ∷ ids) v inside is =
     by false other is rest = rest is
 
 -- storing a stored module changes nothing
-pub stored_already : (root : RootView) (v : List ℕ) → contains_specifier root.stored v ≡ true → with_stored_module root (Some v) ≡ root
+pub stored_already : (root : RootView) (v : List ℕ) → contains_specifier root.stored v ≡ true → root_with_stored_module root (Some v) ≡ root
 stored_already root v is = λ i. record root { stored = (ap (λ b. if b then root.stored else root.stored ++ v ∷ []) is) i }
 
 -- storing one more module stores none twice
-pub still_once : (root : RootView) (needed : Option (List ℕ)) → IsDistinct bytes_eq root.stored → IsDistinct bytes_eq (with_stored_module root needed).stored
+pub still_once : (root : RootView) (needed : Option (List ℕ)) → IsDistinct bytes_eq root.stored
+    → IsDistinct bytes_eq (root_with_stored_module root needed).stored
 still_once root None once = once
 still_once root (Some v) once = by (contains_specifier root.stored v) refl
   where

@@ -6,7 +6,7 @@ use Rattle.std.proofs.lemmas.Option.{none-some}
 use Rattle.symbols_ast.specs.declared.ids.ModuleId.{ModuleId}
 use Rattle.symbols_table.specs.declared.info.fault.SymbolsFault.{SymbolsFault}
 use Rattle.symbols_table.specs.declared.info.fault.SymbolsFault.TheVariants.{OutOfMemory}
-use Rattle.symbols_root.specs.Roots.{RootView, with_stored_module, IsStoringFault, specifier_in}
+use Rattle.symbols_root.specs.Roots.{RootView, root_with_stored_module, IsStoringFault, specifier_in}
 use Rattle.symbols_exports.specs.declared.frame.Frame.{Frame}
 use Rattle.symbols_exports.specs.declared.name_filter.NameFilter.{NameFilter}
 use Rattle.symbols_exports.specs.declared.name_filter.NameFilter.TheVariants.{AllNames, OneName}
@@ -14,7 +14,7 @@ use Rattle.symbols_exports.specs.ExportAnswers.{IsUnknownModuleFault, IsExportsW
 use Rattle.symbols_exports.specs.OneName.{IsExportOfWalkFault}
 use Rattle.symbols_exports.specs.inner.OneName.{IsExportWalkAnswer, IsExportWalkFault}
 use Rattle.symbols_exports.specs.SharedNames.{NameWithExporters}
-use Rattle.symbols_exports.specs.SharedNameLists.{groups_with_shared_exporters}
+use Rattle.symbols_exports.specs.SharedNameLists.{groups_of_several_first_along_star}
 use Rattle.symbols_exports.specs.inner.Collecting.{is_along_stars}
 use Rattle.symbols_exports.specs.StarStatements.{star_specifiers, resolve_specifier, star_targets_of}
 use Rattle.symbols_exports.specs.CollectedNames.{ResolvedExportView}
@@ -41,7 +41,7 @@ unknown_is_fault (OneName name) old new start fault lookups unknown = inl unknow
 
 -- before the first statement
 pub cut_first : (name_filter : NameFilter) (old : RootView) (start : ModuleId) → start.0 < length old.stored
-    → with_stored_module old (Some (specifier_in old start)) ≡ old → IsCut name_filter old old start OutOfMemory 0
+    → root_with_stored_module old (Some (specifier_in old start)) ≡ old → IsCut name_filter old old start OutOfMemory 0
 cut_first AllNames old start known is_stored = broken_here (walking_first AllNames old start known is_stored)
 cut_first (OneName name) old start known is_stored = name_broken_first name.now old start known is_stored
 
@@ -70,7 +70,7 @@ pub cut_stored : (name_filter : NameFilter) {old : RootView} {start : ModuleId} 
     → is_name_search_done name_filter collected.names ≡ false → slice_get (star_specifiers old.graph (specifier_in root frame.referrer)) frame.position
     ≡ Some frame.specifier_text.now → length (star_targets_of old.graph (specifier_in root frame.referrer)) < 2 ^ 63 → (v : List ℕ)
     → resolve_specifier old.graph (specifier_in root frame.referrer) frame.specifier_text.now ≡ Some v
-    → IsCut name_filter old (with_stored_module root (Some v)) start OutOfMemory (lookups + 1)
+    → IsCut name_filter old (root_with_stored_module root (Some v)) start OutOfMemory (lookups + 1)
 cut_stored AllNames frame walk goes specifier_is few_here v ends_at = broken_stored frame walk specifier_is few_here v ends_at
 cut_stored (OneName name) frame walk goes specifier_is few_here v ends_at =
     name_broken_stored walk goes frame.specifier_text.now specifier_is v ends_at (stored_with frame walk specifier_is few_here v (cursor walk))
@@ -79,16 +79,16 @@ cut_stored (OneName name) frame walk goes specifier_is few_here v ends_at =
 pub walked_end : (name_filter : NameFilter) {old : RootView} {start : ModuleId} {root : RootView} {here : ModuleId} {next : ℕ} {stack : List Frame} {ids : List
     ModuleId} {collected : CollectedView} {lookups : ℕ} (walk : IsWalking name_filter old start root here next stack ids collected lookups)
     → is_name_search_done name_filter collected.names ≡ false → stack ≡ [] → length (star_targets_of old.graph (specifier_in root here)) ≤ next
-    → IsExportWalkAnswer name_filter old root start collected.names (groups_with_shared_exporters is_along_stars collected.candidates) collected.unresolved
-    lookups
+    → IsExportWalkAnswer name_filter old root start collected.names (groups_of_several_first_along_star is_along_stars collected.candidates)
+    collected.unresolved lookups
 walked_end AllNames walk goes empty_stack ended = walking_end walk empty_stack ended
 walked_end (OneName name) walk goes empty_stack ended = name_ended walk goes empty_stack ended
 
 pub walked_done : (name_filter : NameFilter) {old : RootView} {start : ModuleId} {root : RootView} {here : ModuleId} {next : ℕ} {stack : List Frame} {ids : List
     ModuleId} {collected : CollectedView} {lookups : ℕ} (walk : IsWalking name_filter old start root here next stack ids collected lookups)
     → is_name_search_done name_filter collected.names ≡ true
-    → IsExportWalkAnswer name_filter old root start collected.names (groups_with_shared_exporters is_along_stars collected.candidates) collected.unresolved
-    lookups
+    → IsExportWalkAnswer name_filter old root start collected.names (groups_of_several_first_along_star is_along_stars collected.candidates)
+    collected.unresolved lookups
 walked_done AllNames walk done = absurd (true≢false (sym done))
 walked_done (OneName name) walk done = name_search_ended walk done
 

@@ -8,7 +8,7 @@ use Rattle.symbols_ast.specs.declared.ids.ModuleId.{ModuleId}
 use Rattle.symbols_ast.specs.Graph.{GraphView}
 use Rattle.symbols_table.specs.declared.info.fault.SymbolsFault.{SymbolsFault}
 use Rattle.symbols_table.specs.declared.info.fault.SymbolsFault.TheVariants.{OutOfMemory}
-use Rattle.symbols_root.specs.Roots.{RootView, with_stored_module, IsStoringFault, specifier_in, with_stored_modules}
+use Rattle.symbols_root.specs.Roots.{RootView, root_with_stored_module, IsStoringFault, specifier_in, root_with_stored_modules}
 use Rattle.symbols_root.specs.Specifiers.{contains_specifier}
 use Rattle.symbols_root.specs.Growing.{HasGrown}
 use Rattle.symbols_root.specs.laws.Growing.{has_grown_refl, has_grown_by_stored_modules}
@@ -18,7 +18,7 @@ use Rattle.symbols_exports.specs.declared.name_filter.NameFilter.TheVariants.{Al
 use Rattle.symbols_exports.specs.ExportAnswers.{IsExportsCallResult, IsExportsWalkFault}
 use Rattle.symbols_exports.specs.Chains.{IsReachedByStars}
 use Rattle.symbols_exports.specs.SharedNames.{NameWithExporters}
-use Rattle.symbols_exports.specs.SharedNameLists.{groups_with_shared_exporters, shared_name_view_of_resolved, AreExporterModulesStored}
+use Rattle.symbols_exports.specs.SharedNameLists.{groups_of_several_first_along_star, shared_name_view_of_resolved, AreExporterModulesStored}
 use Rattle.symbols_exports.specs.inner.Collecting.{is_along_stars}
 use Rattle.symbols_exports.specs.StarStatements.{star_specifiers, resolve_specifier, star_targets_of, explicit_exports_of}
 use Rattle.symbols_exports.specs.CollectedNames.{ResolvedExportView}
@@ -46,8 +46,8 @@ visited_push (m ∷ visited) cursor v = ap (λ xs. m.1 ∷ xs) (visited_push vis
 
 module _ {name_filter : NameFilter} {old : RootView} {start : ModuleId} {root : RootView} {here : ModuleId} {next : ℕ} {stack : List Frame} {ids : List
     ModuleId} {collected : CollectedView} {lookups : ℕ} (walk : IsWalking name_filter old start root here next stack ids collected lookups) where
-  pub stored_is : root ≡ with_stored_modules old (visited_modules walk.visited)
-  stored_is = walk.stored ∙ ap (with_stored_modules old) (sym walk.visited_are)
+  pub stored_is : root ≡ root_with_stored_modules old (visited_modules walk.visited)
+  stored_is = walk.stored ∙ ap (root_with_stored_modules old) (sym walk.visited_are)
 
   -- the walk fails at its cursor
   pub broken : (fault : SymbolsFault) (needed : Option (List ℕ)) (so_far : ℕ) → so_far ≤ count_visited (star_targets_of old.graph) walk.visited
@@ -74,7 +74,7 @@ module _ {name_filter : NameFilter} {old : RootView} {start : ModuleId} {root : 
 module _ {old : RootView} {start : ModuleId} {root : RootView} {here : ModuleId} {next : ℕ} {stack : List Frame} {ids : List
     ModuleId} {collected : CollectedView} {lookups : ℕ} (walk : IsWalking AllNames old start root here next stack ids collected lookups) where
   pub walking_end : stack ≡ [] → length (star_targets_of old.graph (specifier_in root here)) ≤ next
-      → IsExportsCallResult old root start collected.names (groups_with_shared_exporters is_along_stars collected.candidates) collected.unresolved lookups
+      → IsExportsCallResult old root start collected.names (groups_of_several_first_along_star is_along_stars collected.candidates) collected.unresolved lookups
   walking_end empty_stack ended =
       let no_frames : forks_in root stack ≡ [] = ap (forks_in root) empty_stack in
       let reached = all_reached walk.at ended no_frames in
@@ -85,10 +85,10 @@ module _ {old : RootView} {start : ModuleId} {root : RootView} {here : ModuleId}
             walk.found (are_exports (star_targets_of old.graph) (explicit_exports_of old.graph) (specifier_in old start) walk.visited ([], []) walk.found
             (exports_once old.graph) reached (walk.found_are ([], []))));
         are_modules_of_exports_stored = walk.inside.names_in;
-        are_shared_names_by_rules = ap (λ groups. map (shared_name_view_of_resolved root) (groups_with_shared_exporters is_along_stars groups))
+        are_shared_names_by_rules = ap (λ groups. map (shared_name_view_of_resolved root) (groups_of_several_first_along_star is_along_stars groups))
             walk.candidate_are
             ∙ are_shared_names_by_rules old.graph root (specifier_in old start) old.rules walk.visited reached walk.candidate walk.candidate_viewed;
-        are_exporter_modules_stored = subst (λ groups. AreExporterModulesStored root (groups_with_shared_exporters is_along_stars groups))
+        are_exporter_modules_stored = subst (λ groups. AreExporterModulesStored root (groups_of_several_first_along_star is_along_stars groups))
             (sym walk.candidate_are)
             (shared_numbered root walk.candidate walk.candidate_in);
         are_unresolved_stars = sym walk.missed_viewed
@@ -124,9 +124,10 @@ module _ {name_filter : NameFilter} {old : RootView} {start : ModuleId} {root : 
                 (chain_of (forks_in root stack ++ record { referrer = specifier_in root frame.referrer; position = frame.position } ∷ [])) v at.here_visited,
           )
 
-  pub stored_with : (v cursor : List ℕ) → with_stored_module root (Some v) ≡ with_stored_modules old (visited_modules (walk.visited ++ (cursor, v) ∷ []))
-  stored_with v cursor = ap (λ (r : RootView). with_stored_module r (Some v)) (stored_is walk)
-      ∙ (sym (stored_one_more old (visited_modules walk.visited) v) ∙ ap (with_stored_modules old) (sym (visited_push walk.visited cursor v)))
+  pub stored_with : (v cursor : List ℕ) → root_with_stored_module root (Some v)
+      ≡ root_with_stored_modules old (visited_modules (walk.visited ++ (cursor, v) ∷ []))
+  stored_with v cursor = ap (λ (r : RootView). root_with_stored_module r (Some v)) (stored_is walk)
+      ∙ (sym (stored_one_more old (visited_modules walk.visited) v) ∙ ap (root_with_stored_modules old) (sym (visited_push walk.visited cursor v)))
 
   -- if the module that the statement resolves to is refused
   pub broken_refused : (fault : SymbolsFault) → IsStoringFault root (resolve_specifier old.graph (specifier_in root frame.referrer) frame.specifier_text.now)
@@ -141,11 +142,11 @@ module _ {name_filter : NameFilter} {old : RootView} {start : ModuleId} {root : 
 
   -- if the module was stored, and an allocation failed then
   pub broken_stored : (v : List ℕ) → resolve_specifier old.graph (specifier_in root frame.referrer) frame.specifier_text.now ≡ Some v
-      → IsExportsWalkFault old (with_stored_module root (Some v)) start OutOfMemory (lookups + 1)
+      → IsExportsWalkFault old (root_with_stored_module root (Some v)) start OutOfMemory (lookups + 1)
   broken_stored v ends_at = by (contains_specifier (visited_modules walk.visited) v) refl
     where
       by : (b : Bool) → contains_specifier (visited_modules walk.visited) v ≡ b
-          → IsExportsWalkFault old (with_stored_module root (Some v)) start OutOfMemory (lookups + 1)
+          → IsExportsWalkFault old (root_with_stored_module root (Some v)) start OutOfMemory (lookups + 1)
       by true is = subst (λ r. IsExportsWalkFault old r start OutOfMemory (lookups + 1))
           (sym (stored_already root v (among_stored root ids v walk.inside.ids_in (subst (λ xs. contains_specifier xs v ≡ true) walk.visited_are is))))
           broken_unresolved
@@ -195,7 +196,7 @@ are_listed graph start = record {
 }
 
 -- the root grows by what the walk stores
-pub grown_by : (old : RootView) (specifiers : List (List ℕ)) (new : RootView) → new ≡ with_stored_modules old specifiers → HasGrown old new
+pub grown_by : (old : RootView) (specifiers : List (List ℕ)) (new : RootView) → new ≡ root_with_stored_modules old specifiers → HasGrown old new
 grown_by old specifiers new stored = subst (HasGrown old) (sym stored) (has_grown_by_stored_modules old specifiers)
 
 pub grown_fault : (name_filter : NameFilter) (old new : RootView) (start : ModuleId) (fault : SymbolsFault) (lookups : ℕ)

@@ -11,7 +11,7 @@ use Rattle.symbols_ast.specs.declared.ids.ModuleId.{ModuleId}
 use Rattle.symbols_table.specs.declared.info.fault.SymbolsFault.{SymbolsFault}
 use Rattle.symbols_table.specs.declared.info.fault.SymbolsFault.TheVariants.{OutOfMemory}
 use Rattle.symbols_table.specs.Events.{default_export_name}
-use Rattle.symbols_root.specs.Roots.{RootView, with_stored_module, IsStoringFault, specifier_in, with_stored_modules}
+use Rattle.symbols_root.specs.Roots.{RootView, root_with_stored_module, IsStoringFault, specifier_in, root_with_stored_modules}
 use Rattle.symbols_root.specs.Specifiers.{contains_specifier}
 use Rattle.symbols_exports.specs.declared.frame.Frame.{Frame}
 use Rattle.symbols_exports.specs.declared.name_filter.NameFilter.TheVariants.{OneName}
@@ -213,12 +213,12 @@ module _ {name : Bor (List ℕ)} {old : RootView} {start : ModuleId} {root : Roo
 
     -- the module was stored, and an allocation failed then
     pub name_broken_stored : (v : List ℕ) → resolve_specifier old.graph (specifier_in root here) specifier_text ≡ Some v
-        → (with_stored_module root (Some v) ≡ with_stored_modules old (visited_modules (walk.visited ++ (cursor, v) ∷ [])))
-        → IsExportOfWalkFault old (with_stored_module root (Some v)) start name.now OutOfMemory (lookups + 1)
+        → (root_with_stored_module root (Some v) ≡ root_with_stored_modules old (visited_modules (walk.visited ++ (cursor, v) ∷ [])))
+        → IsExportOfWalkFault old (root_with_stored_module root (Some v)) start name.now OutOfMemory (lookups + 1)
     name_broken_stored v ends_at stored = by (contains_specifier (visited_modules walk.visited) v) refl
       where
         by : (b : Bool) → contains_specifier (visited_modules walk.visited) v ≡ b
-            → IsExportOfWalkFault old (with_stored_module root (Some v)) start name.now OutOfMemory (lookups + 1)
+            → IsExportOfWalkFault old (root_with_stored_module root (Some v)) start name.now OutOfMemory (lookups + 1)
         by true is = subst (λ r. IsExportOfWalkFault old r start name.now OutOfMemory (lookups + 1))
             (sym (stored_already root v (among_stored root ids v walk.inside.ids_in (subst (λ xs. contains_specifier xs v ≡ true) walk.visited_are is))))
             (name_broken OutOfMemory None (λ w some. absurd (none-some w some)) tt)
@@ -252,7 +252,7 @@ module _ {name : Bor (List ℕ)} {old : RootView} {start : ModuleId} {root : Roo
 
 -- the search fails before the first statement
 pub name_broken_first : (name : List ℕ) (old : RootView) (start : ModuleId) → start.0 < length old.stored
-    → with_stored_module old (Some (specifier_in old start)) ≡ old → IsExportOfWalkFault old old start name OutOfMemory 0
+    → root_with_stored_module old (Some (specifier_in old start)) ≡ old → IsExportOfWalkFault old old start name OutOfMemory 0
 name_broken_first name old start known is_stored = record {
   known = known;
   reached = ([], specifier_in old start) ∷ [];

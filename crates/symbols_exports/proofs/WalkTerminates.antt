@@ -6,7 +6,7 @@ use Rattle.std.proofs.lemmas.List.Sums.{sum_by_push}
 use Rattle.symbols_ast.specs.declared.ids.ModuleId.{ModuleId}
 use Rattle.symbols_ast.specs.Graph.{GraphView, ModuleView}
 use Rattle.symbols_root.specs.Specifiers.{module_with_specifier, contains_specifier}
-use Rattle.symbols_root.specs.Roots.{RootView, with_stored_module, maybe_specifier, specifier_in}
+use Rattle.symbols_root.specs.Roots.{RootView, root_with_stored_module, maybe_specifier, specifier_in}
 use Rattle.symbols_exports.specs.declared.frame.Frame.{Frame}
 use Rattle.symbols_exports.specs.declared.name_filter.NameFilter.{NameFilter}
 use Rattle.symbols_exports.specs.StarStatements.{star_specifiers, resolve_specifier, star_targets_of}
@@ -42,25 +42,27 @@ module _ {name_filter : NameFilter} {old : RootView} {start : ModuleId} {root : 
     (few_here : length (star_targets_of old.graph (specifier_in root frame.referrer)) < 2 ^ 63) (v : List ℕ)
     (ends_at : resolve_specifier old.graph (specifier_in
     root frame.referrer) frame.specifier_text.now ≡ Some v) (is_fresh : contains_specifier (visited_modules walk.visited) v ≡ false) (number : ModuleId)
-    (number_is : maybe_specifier (with_stored_module root (Some v)) number ≡ Some v) (m : ModuleView) (there : module_with_specifier old.graph v ≡ Some m) where
-  fresh : (c : List ℕ) → Contains walk.visited (c, v) → ⊥
-  fresh = not_visited frame walk specifier_is few_here v is_fresh
+    (number_is : maybe_specifier (root_with_stored_module root (Some v)) number ≡ Some v) (m : ModuleView) (there : module_with_specifier old.graph v ≡ Some m)
+  where
+    fresh : (c : List ℕ) → Contains walk.visited (c, v) → ⊥
+    fresh = not_visited frame walk specifier_is few_here v is_fresh
 
-  pub entered_less : work_left old.graph (with_stored_module root (Some v)) number 0 (stack ++ frame ∷ []) (ids ++ number ∷ [])
-      < work_left old.graph root frame.referrer frame.position stack ids
-  entered_less =
-      let fewer = unvisited_entered (weight old.graph) (map (specifier_in root) ids) v (subst (λ xs. contains_specifier xs v ≡ false) walk.visited_are is_fresh)
-      old.graph.modules m there in
-      rw (
-        entered.ids_are frame walk specifier_is few_here v ends_at fresh number number_is,
-        entered.forks_are frame walk specifier_is few_here v ends_at fresh
-            number number_is,
-        entered.number_is frame walk specifier_is few_here v ends_at fresh number number_is,
-      )
-      (omega (
-        arith,
-        fewer,
-        is_one walk frame.specifier_text.now specifier_is,
-        length_push stack frame,
-        sum_by_push (left_at (star_targets_of old.graph)) (forks_in root stack) (fork_in root frame),
-      ))
+    pub entered_less : work_left old.graph (root_with_stored_module root (Some v)) number 0 (stack ++ frame ∷ []) (ids ++ number ∷ [])
+        < work_left old.graph root frame.referrer frame.position stack ids
+    entered_less =
+        let fewer = unvisited_entered (weight old.graph) (map (specifier_in root) ids) v
+        (subst (λ xs. contains_specifier xs v ≡ false) walk.visited_are is_fresh)
+        old.graph.modules m there in
+        rw (
+          entered.ids_are frame walk specifier_is few_here v ends_at fresh number number_is,
+          entered.forks_are frame walk specifier_is few_here v ends_at fresh
+              number number_is,
+          entered.number_is frame walk specifier_is few_here v ends_at fresh number number_is,
+        )
+        (omega (
+          arith,
+          fewer,
+          is_one walk frame.specifier_text.now specifier_is,
+          length_push stack frame,
+          sum_by_push (left_at (star_targets_of old.graph)) (forks_in root stack) (fork_in root frame),
+        ))

@@ -5,7 +5,7 @@ use Rattle.symbols_ast.specs.declared.ids.ModuleId.{ModuleId}
 use Rattle.symbols_ast.specs.Graph.{GraphView}
 use Rattle.symbols_table.specs.declared.info.fault.SymbolsFault.{SymbolsFault}
 use Rattle.symbols_table.specs.declared.info.fault.SymbolsFault.TheVariants.{UnknownModule}
-use Rattle.symbols_root.specs.Roots.{RootView, IsStoringFault, specifier_in, with_stored_modules}
+use Rattle.symbols_root.specs.Roots.{RootView, IsStoringFault, specifier_in, root_with_stored_modules}
 use Rattle.symbols_exports.specs.Chains.{IsChainBefore, IsLeastChain, IsReachedByStars, AreReachedByStars}
 use Rattle.symbols_exports.specs.Exports.{ExportEntry, StarPosition, AreExports, AreUnresolvedStars}
 use Rattle.symbols_exports.specs.SharedNames.{NameWithExporters, AreSharedNames}
@@ -46,7 +46,7 @@ pub record IsExportsCallResult (old new : RootView) (start : ModuleId) (names : 
   pub are_referrers_of_stars_stored : AreReferrersOfStarsStored new unresolved
   pub reached : List (List ℕ × List ℕ)
   pub are_reached : AreReachedByStars (star_targets_of old.graph) (specifier_in old start) reached
-  pub stored : new ≡ with_stored_modules old (map (λ (m : List ℕ × List ℕ). m.1) reached)
+  pub stored : new ≡ root_with_stored_modules old (map (λ (m : List ℕ × List ℕ). m.1) reached)
   pub lookups_counted : lookups ≡ star_statement_count old.graph reached
 
 -- no module of this number is stored: the root is unchanged, and nothing was looked up
@@ -63,7 +63,7 @@ pub record IsExportsWalkFault (old new : RootView) (start : ModuleId) (fault : S
   pub reached : List (List ℕ × List ℕ)
   pub are_least : (chain end : List ℕ) → Contains reached (chain, end) → IsLeastChain (star_targets_of old.graph) (specifier_in old start) chain end
   pub ordered : AllPairs (λ (x y : List ℕ × List ℕ). IsChainBefore x.0 y.0) reached
-  pub stored : new ≡ with_stored_modules old (map (λ (m : List ℕ × List ℕ). m.1) reached)
+  pub stored : new ≡ root_with_stored_modules old (map (λ (m : List ℕ × List ℕ). m.1) reached)
   pub lookups_counted : lookups ≤ star_statement_count old.graph reached
   pub needed : Option (List ℕ)
   pub is_needed_module_reached : (specifier : List ℕ) → needed ≡ Some specifier → IsReachedByStars (star_targets_of old.graph)

@@ -6,7 +6,7 @@ use Rattle.symbols_ast.specs.declared.ids.ModuleId.{ModuleId}
 use Rattle.symbols_ast.specs.Graph.{GraphView}
 use Rattle.symbols_table.specs.declared.info.fault.SymbolsFault.{SymbolsFault}
 use Rattle.symbols_table.specs.Events.{default_export_name}
-use Rattle.symbols_root.specs.Roots.{RootView, IsStoringFault, specifier_in, with_stored_modules}
+use Rattle.symbols_root.specs.Roots.{RootView, IsStoringFault, specifier_in, root_with_stored_modules}
 use Rattle.symbols_exports.specs.ExportAnswers.{IsUnknownModuleFault}
 use Rattle.symbols_exports.specs.Chains.{StarTargets, star_target_at, IsChainBefore, IsChainBeforeOrEqual, IsLeastChain}
 use Rattle.symbols_exports.specs.Exports.{ExportEntry, StarPosition, IsStarStatementBefore}
@@ -54,7 +54,7 @@ pub record IsExportOfCallResult (old new : RootView) (start : ModuleId) (name : 
   pub are_reached : AreReachedUpToChain (star_targets_of old.graph) (specifier_in old start)
       (last_searched_chain name (find_export old.graph (specifier_in old start) name))
       reached
-  pub stored : new ≡ with_stored_modules old (map (λ (m : List ℕ × List ℕ). m.1) reached)
+  pub stored : new ≡ root_with_stored_modules old (map (λ (m : List ℕ × List ℕ). m.1) reached)
   pub statements : List StarPosition
   pub are_looked_up_stars : AreStarsLookedUp (star_targets_of old.graph) (specifier_in old start)
       (last_searched_chain name (find_export old.graph (specifier_in old start) name))
@@ -69,7 +69,7 @@ pub record IsExportOfWalkFault (old new : RootView) (start : ModuleId) (name : L
   pub are_reached : (chain end : List ℕ) → Contains reached (chain, end) → IsLeastChain (star_targets_of old.graph) (specifier_in old start) chain end
       × IsChainNotAfterLastSearched (last_searched_chain name (find_export old.graph (specifier_in old start) name)) chain
   pub ordered : AllPairs (λ (x y : List ℕ × List ℕ). IsChainBefore x.0 y.0) reached
-  pub stored : new ≡ with_stored_modules old (map (λ (m : List ℕ × List ℕ). m.1) reached)
+  pub stored : new ≡ root_with_stored_modules old (map (λ (m : List ℕ × List ℕ). m.1) reached)
   pub statements : List StarPosition
   pub are_looked_up_stars : (at : StarPosition) → Contains statements at
       → IsStarLookedUp (star_targets_of old.graph) (specifier_in old start) (last_searched_chain name (find_export old.graph (specifier_in old start) name)) at

@@ -14,12 +14,12 @@ use Rattle.symbols_exports.specs.ExportViews.{ExportView, export_view_of_entry, 
 use Rattle.symbols_exports.specs.Traces.{StarWalkVisit, star_walk_visits_of, first_distinct_by, export_candidates_along_chain, is_same_visit_end}
 
 -- the chain and the module of a trace to a module; none for a trace to an unresolved statement
-abbrev pub module_reached_by_visit : StarWalkVisit → Option (List ℕ × List ℕ)
-module_reached_by_visit trace = option_map_or (λ position. None) trace.unresolved_at (Some (trace.chain, trace.end))
+abbrev pub module_reached_unless_unresolved : StarWalkVisit → Option (List ℕ × List ℕ)
+module_reached_unless_unresolved trace = option_map_or (λ position. None) trace.unresolved_at (Some (trace.chain, trace.end))
 
 -- the reachable modules, each with the first chain to it
 abbrev pub star_reached_modules_of : GraphView → List ℕ → List (List ℕ × List ℕ)
-star_reached_modules_of graph start = filter_map module_reached_by_visit (first_distinct_by is_same_visit_end (star_walk_visits_of graph start))
+star_reached_modules_of graph start = filter_map module_reached_unless_unresolved (first_distinct_by is_same_visit_end (star_walk_visits_of graph start))
 
 -- the candidates of these modules along these chains
 abbrev pub export_candidates_along_chains : ExplicitExports → List (List ℕ × List ℕ) → List ExportEntry
@@ -32,16 +32,16 @@ grouped_by_name name (x ∷ xs) = record { name = name x; exporters = x ∷ filt
     ∷ filter (λ group. not (bytes_eq (name x) group.name)) (grouped_by_name name xs)
 
 -- whether the group has two or more elements, and the first comes along an `export *`
-abbrev pub has_shared_exporters : {A : Type 0} → (A → Bool) → List A → Bool
-has_shared_exporters is_along [] = false
-has_shared_exporters is_along (x ∷ []) = false
-has_shared_exporters is_along (x ∷ y ∷ rest) = is_along x
+abbrev pub has_several_exporters_first_along_star : {A : Type 0} → (A → Bool) → List A → Bool
+has_several_exporters_first_along_star is_along [] = false
+has_several_exporters_first_along_star is_along (x ∷ []) = false
+has_several_exporters_first_along_star is_along (x ∷ y ∷ rest) = is_along x
 
-abbrev pub groups_with_shared_exporters : {A : Type 0} → (A → Bool) → List (NameWithExporters A) → List (NameWithExporters A)
-groups_with_shared_exporters is_along groups = filter (λ group. has_shared_exporters is_along group.exporters) groups
+abbrev pub groups_of_several_first_along_star : {A : Type 0} → (A → Bool) → List (NameWithExporters A) → List (NameWithExporters A)
+groups_of_several_first_along_star is_along groups = filter (λ group. has_several_exporters_first_along_star is_along group.exporters) groups
 
 abbrev pub shared_names_among : {A : Type 0} → (A → List ℕ) → (A → Bool) → List A → List (NameWithExporters A)
-shared_names_among name is_along candidates = groups_with_shared_exporters is_along (grouped_by_name name candidates)
+shared_names_among name is_along candidates = groups_of_several_first_along_star is_along (grouped_by_name name candidates)
 
 abbrev pub is_nonempty_chain : List ℕ → Bool
 is_nonempty_chain [] = false

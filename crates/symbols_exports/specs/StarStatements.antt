@@ -2,15 +2,15 @@
 use Rattle.std.specs.Prelude.{ℕ, List, map, Option}
 use Rattle.std.specs.Option.{option_and_then}
 use Rattle.symbols_ast.specs.Graph.{GraphView, resolved_dependency}
-use Rattle.symbols_table.specs.Changes.{export_stars_after, exports_after}
-use Rattle.symbols_root.specs.GraphModules.{changes_of_module}
+use Rattle.symbols_table.specs.Changes.{export_stars_after_changes, exports_after_changes}
+use Rattle.symbols_root.specs.GraphModules.{table_changes_of_module}
 use Rattle.symbols_root.specs.TypesChains.{resolved_module_specifier}
 use Rattle.symbols_exports.specs.Chains.{StarTargets}
 use Rattle.symbols_exports.specs.Exports.{ExplicitExports}
 
 -- the specifiers of the `export *` statements of a module, in order
 abbrev pub star_specifiers : GraphView → List ℕ → List (List ℕ)
-star_specifiers graph specifier = map (λ star. star.specifier_text) (export_stars_after (changes_of_module graph specifier))
+star_specifiers graph specifier = map (λ star. star.specifier_text) (export_stars_after_changes (table_changes_of_module graph specifier))
 
 -- the module that a specifier in a module resolves to
 abbrev pub resolve_specifier : GraphView → List ℕ → List ℕ → Option (List ℕ)
@@ -22,4 +22,4 @@ star_targets_of graph specifier = map (resolve_specifier graph specifier) (star_
 
 -- the local exports of each module: the exports of its symbol 0
 abbrev pub explicit_exports_of : GraphView → ExplicitExports
-explicit_exports_of graph specifier = exports_after (changes_of_module graph specifier) (record { 0 = 0 })
+explicit_exports_of graph specifier = exports_after_changes (table_changes_of_module graph specifier) (record { 0 = 0 })

@@ -8,13 +8,12 @@ ghost use Rattle.std.specs.List.{position};
 ghost use Rattle.std.specs.Map.{keys_of, lookup};
 ghost use Rattle.std.specs.Str.{bytes_eq};
 ghost use Rattle.symbols_root.specs.Roots.{specifier_in};
-ghost use Rattle.symbols_exports.specs.SharedNameLists.{groups_with_shared_exporters};
+ghost use Rattle.symbols_exports.specs.SharedNameLists.{groups_of_several_first_along_star};
 ghost use Rattle.symbols_exports.specs.inner.Collecting.{is_along_stars};
 ghost use Rattle.symbols_exports.specs.CollectedNames.{resolved_export_views};
 ghost use Rattle.symbols_exports.specs.CollectedNames.{resolved_shared_name_views};
 ghost use Rattle.symbols_exports.specs.CollectedNames.{unresolved_star_view};
-ghost use Rattle.symbols_exports.specs.inner.Collecting.{frame_view, nothing_collected};
-ghost use Rattle.symbols_exports.specs.inner.Collecting.{with_unresolved};
+ghost use Rattle.symbols_exports.specs.inner.Collecting.{frame_view, nothing_collected, walk_with_unresolved_star};
 ghost use Rattle.symbols_exports.specs.inner.Collecting.{walk_with_exports_of_module};
 ghost use Rattle.symbols_exports.specs.inner.NameFilter.{is_name_search_done, accepted_exports_of};
 
@@ -65,17 +64,17 @@ impl<'a> Model for CollectedExports<'a> {
     ghost use Rattle.std.specs.Prelude.{◌≤◌, length, map, [], if◌then◌else◌};
     ghost use Rattle.symbols_exports.specs.CollectedNames.{resolved_export_views};
     ghost use Rattle.symbols_exports.specs.CollectedNames.{unresolved_star_view};
-    ghost use Rattle.symbols_exports.specs.inner.Collecting.{ExportWalkView, chain_lists_view};
-    ghost use Rattle.symbols_exports.specs.inner.Collecting.{shared_groups_of};
+    ghost use Rattle.symbols_exports.specs.inner.Collecting.{CollectedExportsView, chain_lists_view};
+    ghost use Rattle.symbols_exports.specs.inner.Collecting.{groups_of_first_and_later_chains};
 
-    ghost Value = { ExportWalkView };
+    ghost Value = { CollectedExportsView };
 
     ghost view = { λ t. record {
       keeps = t.collects_shared;
       collected = record {
         names = resolved_export_views t.resolved.entries;
         candidates = if t.collects_shared
-            then shared_groups_of t.resolved.entries (chain_lists_view t.shadowed.items) else [];
+            then groups_of_first_and_later_chains t.resolved.entries (chain_lists_view t.shadowed.items) else [];
         unresolved = map unresolved_star_view t.unresolved.items;
       };
     } };
@@ -196,7 +195,7 @@ impl<'a> CollectedExports<'a> {
 
     /// Adds a statement that resolves to no module.
     pub(crate) fn collect_unresolved(&mut self, frame: Frame<'a>) -> Result<(), AllocError>
-        ensures { OnOk result (self.new ≡ with_unresolved (frame_view frame.entry) self.old) }
+        ensures { OnOk result (self.new ≡ walk_with_unresolved_star (frame_view frame.entry) self.old) }
     {
         self.unresolved.push(frame.unresolved())?;
         Ok(())
@@ -214,7 +213,7 @@ impl<'a> CollectedExports<'a> {
         ensures resolved { IfOk result
             (λ answer. resolved_export_views answer.resolved.entries ≡ self.entry.collected.names) }
         ensures shared { IfOk result (λ answer. resolved_shared_name_views answer.shared.items
-            ≡ groups_with_shared_exporters is_along_stars self.entry.collected.candidates) }
+            ≡ groups_of_several_first_along_star is_along_stars self.entry.collected.candidates) }
         ensures unresolved { IfOk result (λ answer. map unresolved_star_view
             answer.unresolved_specifiers.items ≡ self.entry.collected.unresolved) }
     {

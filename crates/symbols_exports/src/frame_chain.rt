@@ -4,7 +4,7 @@ ghost use Rattle.std.specs.Prelude.{◌≡◌, ◌&&◌, IfOk, map};
 ghost use Rattle.std.specs.Str.{bytes_eq};
 ghost use Rattle.symbols_table.specs.Events.{default_export_name};
 ghost use Rattle.symbols_exports.specs.ExportChains.{resolved_export, statements_of_chain};
-ghost use Rattle.symbols_exports.specs.inner.Collecting.{frame_view, has_statements};
+ghost use Rattle.symbols_exports.specs.inner.Collecting.{frame_view, has_star_statements};
 
 use crate::export_chain::{
     ResolvedExport, ResolvedExportOrReExportAllPath, ResolvedReExportAllPath,
@@ -36,7 +36,7 @@ pub(crate) fn chain_of_frames<'a>(
 /// Returns whether a name is left out: it is `default`, and at least one `export *` was followed.
 pub(crate) fn is_excluded_default(name: &str, stack: &[Frame<'_>]) -> bool
     ensures { result ≡ (bytes_eq name.now default_export_name
-        && has_statements (map frame_view stack.now)) }
+        && has_star_statements (map frame_view stack.now)) }
 {
     name == "default" && !stack.is_empty()
 }

@@ -3,13 +3,15 @@
 ghost use Rattle.std.specs.Prelude.{◌≡◌, ◌<◌, ◌≤◌, ◌∷◌, IfOk, OnOk, List, ℕ, length, map};
 ghost use Rattle.std.specs.Prelude.{string_bytes};
 ghost use Rattle.symbols_exports.specs.ExportChains.{resolved_export, statements_of_chain};
-ghost use Rattle.symbols_exports.specs.SharedNameLists.{has_shared_exporters, groups_with_shared_exporters};
+ghost use Rattle.symbols_exports.specs.SharedNameLists.{has_several_exporters_first_along_star};
+ghost use Rattle.symbols_exports.specs.SharedNameLists.{groups_of_several_first_along_star};
 ghost use Rattle.symbols_exports.specs.inner.Collecting.{is_along_stars};
 ghost use Rattle.symbols_exports.specs.CollectedNames.{resolved_export_view, resolved_chain_view};
 ghost use Rattle.symbols_exports.specs.CollectedNames.{resolved_shared_name_view};
 ghost use Rattle.symbols_exports.specs.CollectedNames.{resolved_shared_name_views};
-ghost use Rattle.symbols_exports.specs.inner.Collecting.{chain_lists_view, with_later_chain};
-ghost use Rattle.symbols_exports.specs.inner.Collecting.{shared_group_of, shared_groups_of};
+ghost use Rattle.symbols_exports.specs.inner.Collecting.{chain_lists_view, chain_lists_with_later_chain};
+ghost use Rattle.symbols_exports.specs.inner.Collecting.{group_of_first_and_later_chains};
+ghost use Rattle.symbols_exports.specs.inner.Collecting.{groups_of_first_and_later_chains};
 
 use crate::export_chain::ResolvedExportOrReExportAllPath;
 use crate::frame::Frame;
@@ -32,8 +34,8 @@ fn reserve_chain_lists(
     ensures few { (count : ℕ) → length shadowed.old.items ≤ count → index < count
         → length shadowed.new.items ≤ count }
     ensures same { OnOk result ((chain : ResolvedExportOrReExportAllPath)
-        → with_later_chain index chain (chain_lists_view shadowed.new.items)
-        ≡ with_later_chain index chain (chain_lists_view shadowed.old.items)) }
+        → chain_lists_with_later_chain index chain (chain_lists_view shadowed.new.items)
+        ≡ chain_lists_with_later_chain index chain (chain_lists_view shadowed.old.items)) }
 {
     'room: while shadowed.len() <= index {
         shadowed.push(Vec::new(alloc))?;
@@ -51,7 +53,7 @@ pub(crate) fn push_later_chain<'a>(
     ensures few { (count : ℕ) → length shadowed.old.items ≤ count → index < count
         → length shadowed.new.items ≤ count }
     ensures put { OnOk result (chain_lists_view shadowed.new.items
-        ≡ with_later_chain index chain.entry (chain_lists_view shadowed.old.items)) }
+        ≡ chain_lists_with_later_chain index chain.entry (chain_lists_view shadowed.old.items)) }
 {
     reserve_chain_lists(alloc, index, shadowed)?;
     shadowed[index].push(chain)?;
@@ -93,7 +95,7 @@ fn is_shared_name(
     shadowed: &[ResolvedExportOrReExportAllPath<'_>],
 ) -> bool
     ensures { (name : List ℕ)
-        → result ≡ has_shared_exporters is_along_stars (resolved_chain_view name first.now
+        → result ≡ has_several_exporters_first_along_star is_along_stars (resolved_chain_view name first.now
         ∷ map (resolved_chain_view name) shadowed.now) }
 {
     match first {
@@ -131,7 +133,7 @@ pub(crate) fn shared_names<'a>(
 ) -> Result<Vec<SharedName<'a>>, AllocError>
     requires few { length shadowed.items ≤ length resolved.now.entries }
     ensures { IfOk result (λ shared. resolved_shared_name_views shared.items
-        ≡ groups_with_shared_exporters is_along_stars (shared_groups_of resolved.now.entries
+        ≡ groups_of_several_first_along_star is_along_stars (groups_of_first_and_later_chains resolved.now.entries
         (chain_lists_view shadowed.entry.items))) }
 {
     let mut shared = Vec::new(alloc);

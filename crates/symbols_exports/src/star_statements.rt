@@ -7,8 +7,7 @@ ghost use Rattle.std.specs.Option.{option_map};
 ghost use Rattle.std.specs.Str.{bytes_eq};
 ghost use Rattle.symbols_ast.specs.Graph.{ModuleView};
 ghost use Rattle.symbols_root.specs.Specifiers.{module_with_specifier};
-ghost use Rattle.symbols_root.specs.Roots.{with_stored_module, maybe_specifier, IsStoringFault};
-ghost use Rattle.symbols_root.specs.Roots.{specifier_in};
+ghost use Rattle.symbols_root.specs.Roots.{root_with_stored_module, maybe_specifier, IsStoringFault, specifier_in};
 ghost use Rattle.symbols_root.specs.Calls.{IsStored, HasGrownAndFailsOnlyFor};
 ghost use Rattle.symbols_exports.specs.StarStatements.{star_specifiers, resolve_specifier};
 ghost use Rattle.symbols_exports.specs.StarStatements.{explicit_exports_of};
@@ -88,7 +87,7 @@ pub(crate) fn resolve_specifier(
     ensures gives { IfOk result (λ id. option_map (maybe_specifier root.new) id
         ≡ option_map (λ s. Some s) (resolve_specifier root.old.graph
         (specifier_in root.old referrer) specifier_text.now)) }
-    ensures stored { OnOk result (root.new ≡ with_stored_module root.old (resolve_specifier root.old.graph
+    ensures stored { OnOk result (root.new ≡ root_with_stored_module root.old (resolve_specifier root.old.graph
         (specifier_in root.old referrer) specifier_text.now)) }
     ensures unchanged { OnErr result (root.new ≡ root.old) }
     ensures there { OnOk result ((v : List ℕ) → resolve_specifier root.old.graph (specifier_in

@@ -6,9 +6,8 @@ ghost use Rattle.std.specs.Option.{option_map, option_map_or};
 ghost use Rattle.std.specs.List.{list_any};
 ghost use Rattle.symbols_ast.specs.FieldViews.{field_view};
 ghost use Rattle.symbols_ast.specs.Nodes.{kind_at};
-ghost use Rattle.symbols_ast.specs.Shapes.{is_misplaced_child, field_has_misplaced_child};
-ghost use Rattle.symbols_ast.specs.Shapes.{has_misplaced_child, is_string_literal};
-ghost use Rattle.symbols_ast.specs.Shapes.{is_binding_ident, needs_from_clause};
+ghost use Rattle.symbols_ast.specs.Shapes.{is_misplaced_child, field_has_misplaced_child, has_misplaced_child};
+ghost use Rattle.symbols_ast.specs.Shapes.{is_string_literal, is_binding_ident, export_specifier_needs_from_clause};
 ghost use Rattle.symbols_ast.specs.Shapes.{is_destructuring_with_default, breaks_rule_of_its_kind};
 ghost use Rattle.symbols_ast.specs.Shapes.{has_misplaced_child_or_breaks_rule};
 
@@ -74,7 +73,7 @@ fn is_binding_ident(nodes: &[Node], id: NodeId) -> bool
 }
 
 fn needs_from_clause(nodes: &[Node], kind: &Kind) -> bool
-    ensures { result ≡ needs_from_clause nodes.now kind.now }
+    ensures { result ≡ export_specifier_needs_from_clause nodes.now kind.now }
 {
     match kind {
         Kind::Item(Item::ExportNamespace { .. }) => true,
@@ -84,7 +83,7 @@ fn needs_from_clause(nodes: &[Node], kind: &Kind) -> bool
 }
 
 fn node_needs_source(nodes: &[Node], id: NodeId) -> bool
-    ensures { result ≡ option_map_or (needs_from_clause nodes.now) (kind_at nodes.now id) false }
+    ensures { result ≡ option_map_or (export_specifier_needs_from_clause nodes.now) (kind_at nodes.now id) false }
 {
     match nodes.get(id.index()) {
         Some(node) => needs_from_clause(nodes, &node.kind),
@@ -94,7 +93,7 @@ fn node_needs_source(nodes: &[Node], id: NodeId) -> bool
 
 fn any_needs_source(nodes: &[Node], ids: &[NodeId]) -> bool
     ensures { result ≡ list_any (λ n.
-        option_map_or (needs_from_clause nodes.now) (kind_at nodes.now n) false) ids.now }
+        option_map_or (export_specifier_needs_from_clause nodes.now) (kind_at nodes.now n) false) ids.now }
 {
     ids.iter().any(|id| node_needs_source(nodes, *id))
 }

@@ -4,7 +4,7 @@ use Rattle.std.specs.Prelude.{Contains}
 use Rattle.symbols_paths.specs.PathTrees.{SymbolBySpecifier, DeclBySpecifier, QualifiedNameParts, UnresolvedEntry, PathTree, PathForest}
 use Rattle.symbols_paths.specs.DeclTargets.{DeclTargetView}
 use Rattle.symbols_paths.specs.PartTargets.{SearchTargets}
-use Rattle.symbols_paths.specs.Derived.{link_head_of_forward, alias_link_head, part_link_head, link_head_with_parts}
+use Rattle.symbols_paths.specs.Derived.{link_head_of_forward, alias_link_head, part_link_head, link_head_with_parts_replaced}
 use Rattle.symbols_paths.specs.Choice.{IsOutcomeOfSymbolSearch, already_visited, is_new, IsOutcomeOfDeclListSearch, no_decl_left, step, IsOutcomeOfDeclSearch}
 use Rattle.symbols_paths.specs.Choice.{decl_is_definition}
 use Rattle.symbols_paths.specs.Choice.{decl_forwards, by_alias_being_resolved, via_alias, IsOutcomeOfCandidateSearch, no_candidate_left}
@@ -81,7 +81,7 @@ module _ (r q : SearchTargets) (marks : Marks) (alike : AreRoutesAlike r q marks
         → IsOutcomeOfPartsInTree q limit running visited p ps t g after × IsMarkedForest marks g
     replaces_there is unresolved_leaf_is_unchanged = (unresolved_leaf_is_unchanged, (tt, tt))
     replaces_there {p = p} {ps = ps} is (link_gets_resolved_forest {head = head} {g = g} x) = let there =
-        replaces_all_there is x in (link_gets_resolved_forest there.0, linked_marked marks (link_head_with_parts head (p ∷ ps)) g there.1)
+        replaces_all_there is x in (link_gets_resolved_forest there.0, linked_marked marks (link_head_with_parts_replaced head (p ∷ ps)) g there.1)
     replaces_there {p = p} {ps = ps} is (definition_has_part {x = x} {t = t} {f = f} e w) =
         let there = resolves_there (alike.marked_parts x p ps t is e) w in
         (definition_has_part (sym (alike.same_parts x p ps is) ∙ e) there.0, linked_marked marks (part_link_head x (p ∷ ps)) f there.1)

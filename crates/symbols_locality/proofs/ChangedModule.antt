@@ -4,10 +4,10 @@ use Rattle.std.specs.Prelude.{filter, if◌then◌else◌}
 use Rattle.std.specs.Str.{bytes_eq}
 use Rattle.symbols_ast.specs.Graph.{GraphView, ModuleView, Resolution, specifier_after_redirect}
 use Rattle.symbols_graph.specs.PutModules.{modules_with_put_module, resolution_with_referrer, is_resolution_of_other_referrer, graph_with_put_module}
-use Rattle.symbols_root.specs.laws.Specifiers.{same_bytes, found_module_has_this_specifier}
+use Rattle.symbols_root.specs.laws.Specifiers.{equal_if_bytes_eq, found_module_has_this_specifier}
 use Rattle.symbols_answers.specs.Questions.{QueryView}
-use Rattle.symbols_answers.specs.Seen.{FollowedSpecifiers}
-use Rattle.symbols_answers.specs.QueryReach.{specifiers_followed_by_question, AreAlikeForQuery, IsModuleNotLookedUpByQuery}
+use Rattle.symbols_answers.specs.Seen.{FollowedSpecifierRelation}
+use Rattle.symbols_answers.specs.QueryReach.{IsSpecifierFollowedForQuestion, AreAlikeForQuery, IsModuleNotLookedUpByQuery}
 use Rattle.symbols_locality.specs.ChangedModule.{DiffersOnlyIn}
 use Rattle.symbols_locality.proofs.FoundModules.{IsFound}
 use Rattle.symbols_locality.proofs.SeenAlike.{found_under_seen}
@@ -22,8 +22,8 @@ alike_if_unseen graph other changed query differs unseen = record {
       (λ is. never specifier (record { key = key; requested = requested; resolves = at }) is);
 }
   where
-    Follows : FollowedSpecifiers
-    Follows = specifiers_followed_by_question graph query.specifier query.question
+    Follows : FollowedSpecifierRelation
+    Follows = IsSpecifierFollowedForQuestion graph query.specifier query.question
 
     never : (specifier : List ℕ) → IsFound graph Follows query.specifier specifier → specifier ≡ changed → ⊥
     never specifier found is =
@@ -36,7 +36,7 @@ never_same : (q w : List ℕ) → (q ≡ w → ⊥) → bytes_eq q w ≡ false
 never_same q w other = by (bytes_eq q w) refl
   where
     by : (b : Bool) → bytes_eq q w ≡ b → b ≡ false
-    by true is = absurd (other (same_bytes q w is))
+    by true is = absurd (other (equal_if_bytes_eq q w is))
     by false is = refl
 
 abbrev has_specifier : List ℕ → ModuleView → Bool
@@ -51,7 +51,7 @@ found_in_both m q other (x ∷ xs) = by (bytes_eq m.specifier x.specifier) refl 
     by : (b : Bool) → bytes_eq m.specifier x.specifier ≡ b → find (has_specifier q) xs ≡ find (has_specifier q) (modules_with_put_module m xs)
         → find (has_specifier q) (x ∷ xs) ≡ find (has_specifier q) (if b then m ∷ xs else x ∷ modules_with_put_module m xs)
     by true is later =
-        let one : bytes_eq q x.specifier ≡ false = never_same q x.specifier (λ e. other (e ∙ sym (same_bytes m.specifier x.specifier is))) in
+        let one : bytes_eq q x.specifier ≡ false = never_same q x.specifier (λ e. other (e ∙ sym (equal_if_bytes_eq m.specifier x.specifier is))) in
         ap (λ b. cond b (Some x) (find (has_specifier q) xs)) one
         ∙ sym (ap (λ b. cond b (Some m) (find (has_specifier q) xs)) (never_same q m.specifier other))
     by false is later = ap (cond (bytes_eq q x.specifier) (Some x)) later
@@ -90,7 +90,7 @@ resolved_in_both specifier referrer specifier_text other (r ∷ later) resolved 
         ++ map (resolution_with_referrer specifier) resolved)
     by true is same =
         ap (λ b. cond (b && bytes_eq specifier_text r.specifier_text) (Some r) (find_resolution referrer specifier_text later))
-        (never_same referrer r.referrer (λ e. other (e ∙ sym (same_bytes specifier r.referrer is)))) ∙ same
+        (never_same referrer r.referrer (λ e. other (e ∙ sym (equal_if_bytes_eq specifier r.referrer is)))) ∙ same
     by false is same = ap (cond (is_resolution_of referrer specifier_text r) (Some r)) same
 
 pub differs_with : (graph : GraphView) (m : ModuleView) (resolved : List (List ℕ × List ℕ)) → DiffersOnlyIn graph

@@ -3,9 +3,9 @@ use Rattle.std.proofs.Common.{◌≡◌, ℕ, Bool, true, List, Some, sym, subst
 use Rattle.symbols_ast.specs.Graph.{GraphView, resolved_dependency}
 use Rattle.symbols_root.specs.TypesChains.{resolved_module_specifier}
 use Rattle.symbols_answers.specs.Questions.{QueryView}
-use Rattle.symbols_answers.specs.Seen.{FollowedSpecifiers, IsRequested, queried_specifier_is_looked_up, resolved_specifier_is_looked_up, IsSpecifierLookedUp}
-use Rattle.symbols_answers.specs.Seen.{is_requested, types_dependency_is_looked_up}
-use Rattle.symbols_answers.specs.QueryReach.{specifiers_followed_by_question, AreAlikeForQuery}
+use Rattle.symbols_answers.specs.Seen.{FollowedSpecifierRelation, IsSpecifierReachedByFollowing, queried_specifier_is_looked_up}
+use Rattle.symbols_answers.specs.Seen.{resolved_specifier_is_looked_up, IsSpecifierLookedUp, is_requested, types_dependency_is_looked_up}
+use Rattle.symbols_answers.specs.QueryReach.{IsSpecifierFollowedForQuestion, AreAlikeForQuery}
 use Rattle.symbols_locality.specs.ClosedPart.{IsClosedPart}
 use Rattle.symbols_locality.proofs.FoundModules.{IsUnder}
 use Rattle.symbols_locality.proofs.SeenAlike.{resolved_under}
@@ -34,8 +34,8 @@ module _ (graph part : GraphView) (is_inside : List ℕ → Bool) (closed : IsCl
       subst (λ w. resolved_dependency graph w specifier_text ≡ resolved_dependency part w specifier_text) at.specifier_is
       (closed.same_resolutions at.key at.found specifier_text at.has at.under)
 
-  module _ (Follows : FollowedSpecifiers) (queried : List ℕ) (inside : IsInside queried) where
-    pub requested_inside : (key : List ℕ) → IsRequested graph Follows queried key → IsInside key
+  module _ (Follows : FollowedSpecifierRelation) (queried : List ℕ) (inside : IsInside queried) where
+    pub requested_inside : (key : List ℕ) → IsSpecifierReachedByFollowing graph Follows queried key → IsInside key
     requested_inside key queried_specifier_is_looked_up = inside
     requested_inside key (resolved_specifier_is_looked_up before specifier specifier_text requested at follows part_is_symbol) =
         target_inside before specifier specifier_text key (requested_inside before requested) at part_is_symbol
@@ -53,5 +53,5 @@ alike_in_part graph part is_inside query closed inside = record {
       (requested_inside graph part is_inside closed Follows query.specifier inside key requested) at;
 }
   where
-    Follows : FollowedSpecifiers
-    Follows = specifiers_followed_by_question graph query.specifier query.question
+    Follows : FollowedSpecifierRelation
+    Follows = IsSpecifierFollowedForQuestion graph query.specifier query.question

@@ -11,7 +11,7 @@ use Rattle.symbols_root.specs.declared.rules.Rules.{Rules}
 use Rattle.symbols_root.specs.GraphModules.{symbol_in_module}
 use Rattle.symbols_root.specs.TypesChains.{resolved_module_specifier}
 use Rattle.symbols_exports.specs.ExportAnswers.{AreExportListsCorrectAndUnique}
-use Rattle.symbols_exports.specs.PublicNames.{PublicNameView}
+use Rattle.symbols_exports.specs.PublicNames.{ExportedNameWithMember}
 use Rattle.symbols_paths.specs.PathTrees.{SymbolBySpecifier, QualifiedNameParts, PathForest, leaves_of_forest, definitions_among}
 use Rattle.symbols_paths.specs.PartTargets.{search_targets_of}
 use Rattle.symbols_paths.specs.Computed.{paths_with_parts}
@@ -24,10 +24,10 @@ use Rattle.symbols_answers.specs.Answers.{answer_name, answer_paths, answer_defi
 use Rattle.symbols_answers.specs.Inputs.{InputView}
 use Rattle.symbols_answers.specs.QueryAnswers.{some_if_strict, definition_paths_from, dependencies_answer, some_answer_if_symbol_exists, question_answer}
 use Rattle.symbols_answers.specs.QueryAnswers.{answer_in_form, query_answer}
-use Rattle.symbols_answers.specs.Seen.{FollowedSpecifiers, StarSpecifiers, queried_specifier_is_looked_up, is_requested, AreAlikeWhereLookedUp}
+use Rattle.symbols_answers.specs.Seen.{FollowedSpecifierRelation, IsStarSpecifierOfModule, queried_specifier_is_looked_up, is_requested, AreAlikeWhereLookedUp}
 use Rattle.symbols_locality.proofs.FoundModules.{IsFound}
 use Rattle.symbols_locality.proofs.SearchMarks.{FollowsStars, marks_of}
-use Rattle.symbols_answers.specs.QueryReach.{IsFollowedBySearch, import_type_specifier_is_followed, specifiers_followed_by_question, AreAlikeForQuery}
+use Rattle.symbols_answers.specs.QueryReach.{IsFollowedBySearch, import_type_specifier_is_followed, IsSpecifierFollowedForQuestion, AreAlikeForQuery}
 use Rattle.symbols_locality.proofs.SeenAlike.{same_resolved_module, same_changes}
 use Rattle.symbols_locality.proofs.ExportViews.{same_export_views, same_unresolved_views, same_shared_name_views, same_names}
 use Rattle.symbols_locality.proofs.ComputedSearch.{same_paths}
@@ -39,7 +39,7 @@ use Rattle.symbols_locality.proofs.SameReferences.{routes, IsReferenceFollowed, 
 module _ (rules : Rules) (graph other : GraphView) (listed : (start : List ℕ) → AreExportListsCorrectAndUnique graph start)
     (other_listed : (start : List ℕ) → AreExportListsCorrectAndUnique other start) (queried : List ℕ) (question : QuestionView)
     (alike : AreAlikeWhereLookedUp graph other (IsFollowedBySearch graph queried question) queried) where
-  abbrev Follows : FollowedSpecifiers
+  abbrev Follows : FollowedSpecifierRelation
   Follows = IsFollowedBySearch graph queried question
 
   abbrev Found : List ℕ → Type 0
@@ -79,40 +79,40 @@ module _ (rules : Rules) (graph other : GraphView) (listed : (start : List ℕ) 
 
 -- ---- all forms of questions
 
-star_specifiers_followed : (graph : GraphView) (queried : List ℕ) → FollowsStars graph (StarSpecifiers graph) queried
+star_specifiers_followed : (graph : GraphView) (queried : List ℕ) → FollowsStars graph (IsStarSpecifierOfModule graph) queried
 star_specifiers_followed graph queried v specifier_text at has = has
 
 module _ (rules : Rules) (graph other : GraphView) (listed : (start : List ℕ) → AreExportListsCorrectAndUnique graph start)
     (other_listed : (start : List ℕ) → AreExportListsCorrectAndUnique other start) (queried : List ℕ) where
   -- the module is found
   found : (question : QuestionView) (v : List ℕ) → resolved_module_specifier graph queried ≡ Some v
-      → IsFound graph (specifiers_followed_by_question graph queried question) queried v
+      → IsFound graph (IsSpecifierFollowedForQuestion graph queried question) queried v
   found question v is = record { key = queried; requested = queried_specifier_is_looked_up; resolves = is }
 
-  question_same : (question : QuestionView) → AreAlikeWhereLookedUp graph other (specifiers_followed_by_question graph queried question) queried → (v : List ℕ)
+  question_same : (question : QuestionView) → AreAlikeWhereLookedUp graph other (IsSpecifierFollowedForQuestion graph queried question) queried → (v : List ℕ)
       → resolved_module_specifier graph queried ≡ Some v → question_answer rules graph v question ≡ question_answer rules other v question
   question_same query_module alike v is = refl
   question_same query_exports alike v is =
       let stars = star_specifiers_followed graph queried in
       let at = found query_exports v is in
-      let exports = same_export_views graph other (StarSpecifiers graph) queried alike stars v at (listed v) (other_listed v) in
-      let shared = same_shared_name_views graph other (StarSpecifiers graph) queried alike stars v at (listed v) (other_listed v) in
-      let unresolved = same_unresolved_views graph other (StarSpecifiers graph) queried alike stars v at (listed v) (other_listed v) in
+      let exports = same_export_views graph other (IsStarSpecifierOfModule graph) queried alike stars v at (listed v) (other_listed v) in
+      let shared = same_shared_name_views graph other (IsStarSpecifierOfModule graph) queried alike stars v at (listed v) (other_listed v) in
+      let unresolved = same_unresolved_views graph other (IsStarSpecifierOfModule graph) queried alike stars v at (listed v) (other_listed v) in
       λ i. Some (answer_exports (exports i) (some_if_strict rules (shared i)) (unresolved i))
   question_same query_names alike v is =
-      ap (λ (names : List PublicNameView). Some (answer_names names))
-      (same_names graph other (StarSpecifiers graph) queried alike (star_specifiers_followed graph queried) v (found query_names v is) (listed v)
+      ap (λ (names : List ExportedNameWithMember). Some (answer_names names))
+      (same_names graph other (IsStarSpecifierOfModule graph) queried alike (star_specifiers_followed graph queried) v (found query_names v is) (listed v)
       (other_listed v))
   question_same (query_symbol name) alike v is =
       ap (λ (changes : List Change). Some (answer_symbol (symbol_of_ident_after_changes changes name)))
-      (same_changes graph other (specifiers_followed_by_question graph queried (query_symbol name)) queried alike v (found (query_symbol name) v is))
+      (same_changes graph other (IsSpecifierFollowedForQuestion graph queried (query_symbol name)) queried alike v (found (query_symbol name) v is))
   question_same (query_name s) alike v is =
       ap (λ (changes : List Change). some_answer_if_symbol_exists (symbol_after_changes changes s)
       (answer_name (qualified_name (λ (t : SymbolId). symbol_after_changes changes t) s)))
-      (same_changes graph other (specifiers_followed_by_question graph queried (query_name s)) queried alike v (found (query_name s) v is))
+      (same_changes graph other (IsSpecifierFollowedForQuestion graph queried (query_name s)) queried alike v (found (query_name s) v is))
   question_same (query_deps s mode) alike v is =
       ap (λ (changes : List Change). option_map (dependencies_answer mode) (symbol_after_changes changes s))
-      (same_changes graph other (specifiers_followed_by_question graph queried (query_deps s mode)) queried alike v (found (query_deps s mode) v is))
+      (same_changes graph other (IsSpecifierFollowedForQuestion graph queried (query_deps s mode)) queried alike v (found (query_deps s mode) v is))
   question_same (query_paths s) alike v is =
       paths_answer_same rules graph other listed other_listed queried (query_paths s) alike v (found (query_paths s) v is) s answer_paths
   question_same (query_definitions s) alike v is =
@@ -133,7 +133,7 @@ same_module_answer rules graph other listed other_listed query alike =
     by (resolved_module_specifier graph query.specifier) refl
     ∙ ap (λ (found : Option (List ℕ)). option_map_or (λ (specifier : List ℕ). question_answer rules other specifier query.question) found
     (Some answer_no_module))
-    (same_resolved_module graph other (specifiers_followed_by_question graph query.specifier query.question) query.specifier alike query.specifier
+    (same_resolved_module graph other (IsSpecifierFollowedForQuestion graph query.specifier query.question) query.specifier alike query.specifier
     (is_requested queried_specifier_is_looked_up))
   where
     by : (found : Option (List ℕ)) → resolved_module_specifier graph query.specifier ≡ found

@@ -2,10 +2,10 @@
 use Rattle.std.proofs.Common.{◌≡◌, ℕ, zero, suc, ◌+◌, Bool, true, false, List, [], ◌∷◌, ◌++◌, Option, refl, ap, ◌∙◌}
 use Rattle.std.specs.Prelude.{Contains, if◌then◌else◌}
 use Rattle.symbols_paths.specs.PathTrees.{SymbolBySpecifier, DeclBySpecifier, QualifiedNameParts, DefinitionView, definition, unresolved, UnresolvedEntry}
-use Rattle.symbols_paths.specs.PathTrees.{PathTree, PathForest, leaf, link, no_trees, more_trees, joined_forests, link_unless_empty}
+use Rattle.symbols_paths.specs.PathTrees.{PathTree, PathForest, leaf, link, no_trees, more_trees, joined_forests, forest_below_link_unless_empty}
 use Rattle.symbols_paths.specs.DeclTargets.{DeclTargetView, defines, forwards, alias}
 use Rattle.symbols_paths.specs.PartTargets.{PartTargetView, part_is_symbol, itself, part_is_unresolved, SearchTargets}
-use Rattle.symbols_paths.specs.Derived.{decl_of_symbol_at_index, link_head_of_forward, alias_link_head, part_link_head, link_head_with_parts}
+use Rattle.symbols_paths.specs.Derived.{decl_of_symbol_at_index, link_head_of_forward, alias_link_head, part_link_head, link_head_with_parts_replaced}
 use Rattle.symbols_paths.specs.Choice.{is_visited, is_alias_being_resolved}
 use Rattle.symbols_paths.specs.Computed.{SearchResult, SymbolSearch, AliasSearch, first_result_with_paths, search_candidates, search_decl_target}
 use Rattle.symbols_paths.specs.Computed.{search_decl_targets}
@@ -63,14 +63,16 @@ module _ (marks : Marks) where
         let found = candidates_alike f g alike visited forward.candidates forward.otherwise is in
         record {
           same =
-              ap (λ (result : SearchResult). record { paths = link_unless_empty (link_head_of_forward s i forward) result.paths; visited = result.visited })
-              found.same;
+              ap (λ (result : SearchResult). record {
+                paths = forest_below_link_unless_empty (link_head_of_forward s i forward) result.paths;
+                visited = result.visited;
+              }) found.same;
           marked = linked_marked marks (link_head_of_forward s i forward) (search_candidates f visited forward.candidates forward.otherwise).paths found.marked;
         }
     decl_target_alike visited s i (alias t ps) is =
         let found = aliases (decl_of_symbol_at_index s i) t ps is in
         record {
-          same = ap (λ (paths : PathForest). record { paths = link_unless_empty (alias_link_head s i ps) paths; visited = visited }) found.same;
+          same = ap (λ (paths : PathForest). record { paths = forest_below_link_unless_empty (alias_link_head s i ps) paths; visited = visited }) found.same;
           marked = linked_marked marks (alias_link_head s i ps) (resolve (decl_of_symbol_at_index s i) t ps) found.marked;
         }
 
@@ -119,7 +121,8 @@ module _ (r q : SearchTargets) (marks : Marks) (alike : AreRoutesAlike r q marks
   part_target_alike f g same visited x ps (part_is_symbol u) is marked =
       let found = same visited u (marked u refl) in
       record {
-        same = ap (λ (result : SearchResult). record { paths = link_unless_empty (part_link_head x ps) result.paths; visited = result.visited }) found.same;
+        same = ap (λ (result : SearchResult). record { paths = forest_below_link_unless_empty (part_link_head x ps) result.paths; visited = result.visited })
+            found.same;
         marked = linked_marked marks (part_link_head x ps) (f visited u).paths found.marked;
       }
   part_target_alike f g same visited x ps itself is marked = record { same = refl; marked = (is, tt) }
@@ -137,10 +140,10 @@ module _ (r q : SearchTargets) (marks : Marks) (alike : AreRoutesAlike r q marks
           let found = forest_alike next visited is in
           record {
             same = ap (λ (result : SearchResult). record {
-              paths = link_unless_empty (link_head_with_parts head (p ∷ ps)) result.paths;
+              paths = forest_below_link_unless_empty (link_head_with_parts_replaced head (p ∷ ps)) result.paths;
               visited = result.visited;
             }) found.same;
-            marked = linked_marked marks (link_head_with_parts head (p ∷ ps)) (resolve_parts_in_forest r f p ps next visited).paths found.marked;
+            marked = linked_marked marks (link_head_with_parts_replaced head (p ∷ ps)) (resolve_parts_in_forest r f p ps next visited).paths found.marked;
           }
 
       forest_alike : (paths : PathForest) (visited : List SymbolBySpecifier) → IsMarkedForest marks paths

@@ -8,7 +8,7 @@ use Rattle.symbols_nodes.specs.References.{NamespacedReference}
 use Rattle.symbols_table.specs.DeclViews.{Declaration, decl_kind_node}
 use Rattle.symbols_deps.specs.DepPaths.{ReferenceGraphStep, IsPathBefore, continues, lower_step, same_step, DependencyOccurrence, AreInPathOrder}
 use Rattle.symbols_deps.specs.DepPaths.{first_path}
-use Rattle.symbols_deps.specs.Dependencies.{dependency_of_occurrence, start_steps_of_decl, IsDependencyList}
+use Rattle.symbols_deps.specs.Dependencies.{dependency_of_occurrence, start_steps_of_decl, AreDependenciesOfAllOccurrences}
 use Rattle.symbols_deps.specs.DeclDependencies.{AreDeclDependencies}
 use Rattle.symbols_locality.proofs.Lists.{first_or_later, contains_first, contains_later, contains_nothing}
 
@@ -67,8 +67,8 @@ same_in_order (x ∷ xs) (y ∷ ys) (first_path x_first x_later) (first_path y_f
 
 -- ---- the dependencies of declarations
 
-same_list : (mode : ResolveDepsMode) (steps : List ReferenceGraphStep) (a b : List NamespacedReference) → IsDependencyList mode steps a
-    → IsDependencyList mode steps b → a ≡ b
+same_list : (mode : ResolveDepsMode) (steps : List ReferenceGraphStep) (a b : List NamespacedReference) → AreDependenciesOfAllOccurrences mode steps a
+    → AreDependenciesOfAllOccurrences mode steps b → a ≡ b
 same_list mode steps a b one two =
     let same : one.all ≡ two.all = same_in_order one.all two.all one.are.in_order two.are.in_order
     (λ f has. two.are.has_every_dependency f.path f.dependency (one.are.are_all_dependencies f has))
@@ -80,8 +80,8 @@ same_of_decl : (mode : ResolveDepsMode) (decl : Declaration) (a b : List Namespa
     → a ≡ b
 same_of_decl mode decl a b = by (decl_kind_node decl.kind)
   where
-    by : (node : Option SymbolNodeView) → MatchOption node (a ≡ []) (λ n. IsDependencyList mode (start_steps_of_decl n) a)
-        → MatchOption node (b ≡ []) (λ n. IsDependencyList mode (start_steps_of_decl n) b) → a ≡ b
+    by : (node : Option SymbolNodeView) → MatchOption node (a ≡ []) (λ n. AreDependenciesOfAllOccurrences mode (start_steps_of_decl n) a)
+        → MatchOption node (b ≡ []) (λ n. AreDependenciesOfAllOccurrences mode (start_steps_of_decl n) b) → a ≡ b
     by None x y = x ∙ sym y
     by (Some n) x y = same_list mode (start_steps_of_decl n) a b x y
 

@@ -3,25 +3,25 @@ use Rattle.std.proofs.Common.{◌≡◌, ℕ, List, [], ◌∷◌, map, get_or, 
 use Rattle.std.specs.Prelude.{Contains, flat_map}
 use Rattle.std.proofs.lemmas.Option.{none-some}
 use Rattle.symbols_ast.specs.Graph.{GraphView}
-use Rattle.symbols_table.specs.Changes.{Change, exports_after}
+use Rattle.symbols_table.specs.Changes.{Change, exports_after_changes}
 use Rattle.symbols_exports.specs.ExportAnswers.{AreExportListsCorrectAndUnique}
 use Rattle.symbols_exports.specs.Chains.{star_target_at, chain_end_module}
 use Rattle.symbols_exports.specs.Exports.{ExportEntry, StarPosition}
-use Rattle.symbols_exports.specs.PublicNames.{PublicNameView, exports_of_symbol, public_names_with_members, public_names_of}
+use Rattle.symbols_exports.specs.PublicNames.{ExportedNameWithMember, exports_of_symbol, public_names_with_members, public_names_of}
 use Rattle.symbols_exports.specs.SharedNames.{NameWithExporters}
 use Rattle.symbols_exports.specs.SharedNameLists.{shared_names_of, shared_name_view_of_entry, shared_name_views_of_module}
 use Rattle.symbols_exports.specs.StarStatements.{star_specifiers, star_targets_of, explicit_exports_of}
 use Rattle.symbols_exports.specs.ExportViews.{StarStatementView, ExportView, star_statement_view, chain_statements, export_view_of_entry}
 use Rattle.symbols_exports.specs.Traces.{exports_of, unresolved_stars_of, export_views_of_module, unresolved_star_views_of_module}
 use Rattle.symbols_locality.proofs.StarReach.{at_start, by_star, AreAlikeAlongStars}
-use Rattle.symbols_answers.specs.Seen.{FollowedSpecifiers, AreAlikeWhereLookedUp}
+use Rattle.symbols_answers.specs.Seen.{FollowedSpecifierRelation, AreAlikeWhereLookedUp}
 use Rattle.symbols_locality.proofs.FoundModules.{IsFound}
 use Rattle.symbols_locality.proofs.Lists.{same_map, same_flat}
 use Rattle.symbols_locality.proofs.StarChains.{chain_along, reached_along}
 use Rattle.symbols_locality.proofs.CarriedExports.{exports_there, unresolved_all_there, shared_there}
 use Rattle.symbols_locality.proofs.SeenAlike.{same_changes, same_star_specifiers, same_star_targets, along_found, alike_from}
 
-module _ (graph other : GraphView) (Follows : FollowedSpecifiers) (queried : List ℕ) (alike : AreAlikeWhereLookedUp graph other Follows queried)
+module _ (graph other : GraphView) (Follows : FollowedSpecifierRelation) (queried : List ℕ) (alike : AreAlikeWhereLookedUp graph other Follows queried)
     (stars : (u specifier_text : List ℕ) → IsFound graph Follows queried u → Contains (star_specifiers graph u) specifier_text → Follows u specifier_text) where
   abbrev Found : List ℕ → Type 0
   Found u = IsFound graph Follows queried u
@@ -63,7 +63,7 @@ module _ (graph other : GraphView) (Follows : FollowedSpecifiers) (queried : Lis
           (unwrap_or (star_target_at (star_targets_of other) u k) []) remaining = one ∙ (on v (further u v k at part_is_symbol) e ∙ sym two) in
           cc
 
-module _ (graph other : GraphView) (Follows : FollowedSpecifiers) (queried : List ℕ) (alike : AreAlikeWhereLookedUp graph other Follows queried)
+module _ (graph other : GraphView) (Follows : FollowedSpecifierRelation) (queried : List ℕ) (alike : AreAlikeWhereLookedUp graph other Follows queried)
     (stars : (u specifier_text : List ℕ) → IsFound graph Follows queried u → Contains (star_specifiers graph u) specifier_text → Follows u specifier_text)
     (start : List ℕ) (at : IsFound graph Follows queried start) (listed : AreExportListsCorrectAndUnique graph start)
     (other_listed : AreExportListsCorrectAndUnique other start) where
@@ -137,10 +137,10 @@ module _ (graph other : GraphView) (Follows : FollowedSpecifiers) (queried : Lis
   pub same_names : public_names_of graph start ≡ public_names_of other start
   same_names = same_flat (items graph) (items other) (exports_of graph start) each ∙ ap (flat_map (items other)) same_exports
     where
-      items : GraphView → ExportEntry → List PublicNameView
+      items : GraphView → ExportEntry → List ExportedNameWithMember
       items g e = public_names_with_members e.name (exports_of_symbol g e.exporter e.symbol)
 
       each : (e : ExportEntry) → Contains (exports_of graph start) e → items graph e ≡ items other e
       each e has =
-          ap (λ (changes : List Change). public_names_with_members e.name (exports_after changes e.symbol))
+          ap (λ (changes : List Change). public_names_with_members e.name (exports_after_changes changes e.symbol))
           (same_changes graph other Follows queried alike e.exporter (end_found e.chain e.exporter (chain_ends_at e has)))

@@ -2,12 +2,12 @@
 use Rattle.std.specs.Prelude.{◌≡◌, ℕ, List, Some}
 use Rattle.symbols_ast.specs.Graph.{GraphView, ModuleView, module_after_redirect}
 use Rattle.symbols_root.specs.TypesChains.{resolved_module_specifier}
-use Rattle.symbols_answers.specs.Seen.{FollowedSpecifiers, IsRequested}
+use Rattle.symbols_answers.specs.Seen.{FollowedSpecifierRelation, IsSpecifierReachedByFollowing}
 
 -- a requested specifier resolves to the module of this own specifier
-pub record IsFound (graph : GraphView) (Follows : FollowedSpecifiers) (queried : List ℕ) (specifier : List ℕ) : Type 0 where
+pub record IsFound (graph : GraphView) (Follows : FollowedSpecifierRelation) (queried : List ℕ) (specifier : List ℕ) : Type 0 where
   pub key : List ℕ
-  pub requested : IsRequested graph Follows queried key
+  pub requested : IsSpecifierReachedByFollowing graph Follows queried key
   pub resolves : resolved_module_specifier graph key ≡ Some specifier
 
 -- the module of this own specifier is there under a specifier with the property

@@ -9,13 +9,13 @@ use Rattle.std.proofs.lemmas.Option.{none-some, same_Some}
 use Rattle.symbols_ast.specs.declared.ids.SymbolId.{SymbolId}
 use Rattle.symbols_ast.specs.Graph.{GraphView}
 use Rattle.symbols_ast.specs.Ids.{IdView}
-use Rattle.symbols_nodes.specs.NodeTests.{is_class}
+use Rattle.symbols_nodes.specs.NodeTests.{is_class_exported_or_not}
 use Rattle.symbols_table.specs.DeclViews.{all_names, one_name, FileDepView, DeclKindView, target, qualified_target, file_ref, definition, Declaration}
 use Rattle.symbols_table.specs.DeclViews.{decl_node_satisfies}
 use Rattle.symbols_table.specs.SymbolViews.{SymbolView, symbol_after_changes}
-use Rattle.symbols_table.specs.Changes.{Change, exports_after, symbol_of_ident_after_changes}
+use Rattle.symbols_table.specs.Changes.{Change, exports_after_changes, symbol_of_ident_after_changes}
 use Rattle.symbols_root.specs.declared.rules.Rules.{Rules}
-use Rattle.symbols_root.specs.GraphModules.{changes_of_module}
+use Rattle.symbols_root.specs.GraphModules.{table_changes_of_module}
 use Rattle.symbols_exports.specs.ExportAnswers.{AreExportListsCorrectAndUnique}
 use Rattle.symbols_exports.specs.Exports.{ExportEntry}
 use Rattle.symbols_exports.specs.OneName.{find_export}
@@ -23,12 +23,12 @@ use Rattle.symbols_exports.specs.StarStatements.{star_specifiers, resolve_specif
 use Rattle.symbols_exports.specs.Traces.{exports_of}
 use Rattle.symbols_paths.specs.PathTrees.{SymbolBySpecifier, DeclBySpecifier, QualifiedNameParts, no_part}
 use Rattle.symbols_paths.specs.DeclTargets.{forwards, symbol_of_id, explicit_export, re_exported_symbol, re_exported_symbols, searches_stars_for}
-use Rattle.symbols_paths.specs.DeclTargets.{re_exported_symbols_by_rules, forward_into_module, forward_of_import, forward_within_module, alias_target}
-use Rattle.symbols_paths.specs.DeclTargets.{target_of_decl, declarations_of}
+use Rattle.symbols_paths.specs.DeclTargets.{re_exported_symbols_by_rules, forward_target_into_module, forward_target_of_import, forward_target_within_module}
+use Rattle.symbols_paths.specs.DeclTargets.{alias_target, target_of_decl, declarations_of}
 use Rattle.symbols_paths.specs.PartTargets.{part_is_symbol, itself, part_is_unresolved, export_of_symbol, prototype_name, is_class_decl_at}
 use Rattle.symbols_paths.specs.PartTargets.{exported_part_target, module_part_target}
 use Rattle.symbols_paths.specs.PartTargets.{import_part_target, definition_part_target, search_targets_of}
-use Rattle.symbols_answers.specs.Seen.{FollowedSpecifiers, AreAlikeWhereLookedUp}
+use Rattle.symbols_answers.specs.Seen.{FollowedSpecifierRelation, AreAlikeWhereLookedUp}
 use Rattle.symbols_locality.proofs.FoundModules.{IsFound}
 use Rattle.symbols_locality.proofs.AlikeRoutes.{Marks, IsMarkedTarget, AreMarkedTargets, AreRoutesAlike}
 use Rattle.symbols_locality.proofs.SearchMarks.{FollowsStars, FollowsImports, marks_of}
@@ -37,14 +37,14 @@ use Rattle.symbols_locality.proofs.Lists.{same_filtered}
 use Rattle.symbols_locality.proofs.SeenAlike.{same_changes, same_star_targets, same_target, target_found}
 use Rattle.symbols_locality.proofs.ExportViews.{same_exports, exporter_found}
 
-module _ (rules : Rules) (graph other : GraphView) (Follows : FollowedSpecifiers) (queried : List ℕ) (alike : AreAlikeWhereLookedUp graph other Follows queried)
-    (stars : FollowsStars graph Follows queried) (imports : FollowsImports graph Follows queried)
+module _ (rules : Rules) (graph other : GraphView) (Follows : FollowedSpecifierRelation) (queried : List ℕ)
+    (alike : AreAlikeWhereLookedUp graph other Follows queried) (stars : FollowsStars graph Follows queried) (imports : FollowsImports graph Follows queried)
     (listed : (start : List ℕ) → AreExportListsCorrectAndUnique graph start)
     (other_listed : (start : List ℕ) → AreExportListsCorrectAndUnique other start) where
   abbrev Found : List ℕ → Type 0
   Found u = IsFound graph Follows queried u
 
-  changes_same : (u : List ℕ) → Found u → changes_of_module graph u ≡ changes_of_module other u
+  changes_same : (u : List ℕ) → Found u → table_changes_of_module graph u ≡ table_changes_of_module other u
   changes_same u at = same_changes graph other Follows queried alike u at
 
   declarations_same : (s : SymbolBySpecifier) → Found s.specifier → declarations_of graph s ≡ declarations_of other s
@@ -103,13 +103,14 @@ module _ (rules : Rules) (graph other : GraphView) (Follows : FollowedSpecifiers
   -- ---- imports
 
   into_same : (s : SymbolBySpecifier) (name v : List ℕ) → Found v
-      → forward_into_module rules graph s name v (explicit_export graph v name) ≡ forward_into_module rules other s name v (explicit_export other v name)
-  into_same s name v at = by (explicit_export graph v name) ∙ ap (forward_into_module rules other s name v) same_export
+      → forward_target_into_module rules graph s name v (explicit_export graph v name) ≡ forward_target_into_module rules other s name v
+      (explicit_export other v name)
+  into_same s name v at = by (explicit_export graph v name) ∙ ap (forward_target_into_module rules other s name v) same_export
     where
       same_export : explicit_export graph v name ≡ explicit_export other v name
-      same_export = ap (λ (changes : List Change). lookup (λ key. bytes_eq name key) (exports_after changes (record { 0 = 0 }))) (changes_same v at)
+      same_export = ap (λ (changes : List Change). lookup (λ key. bytes_eq name key) (exports_after_changes changes (record { 0 = 0 }))) (changes_same v at)
 
-      by : (explicit : Option SymbolId) → forward_into_module rules graph s name v explicit ≡ forward_into_module rules other s name v explicit
+      by : (explicit : Option SymbolId) → forward_target_into_module rules graph s name v explicit ≡ forward_target_into_module rules other s name v explicit
       by (Some explicit) = refl
       by None =
           ap (λ (candidates : List SymbolBySpecifier). record {
@@ -120,27 +121,27 @@ module _ (rules : Rules) (graph other : GraphView) (Follows : FollowedSpecifiers
           }) (re_exported_same name v at)
 
   into_found : (s : SymbolBySpecifier) (name v : List ℕ) → Found v → (explicit : Option SymbolId) → (c : SymbolBySpecifier)
-      → Contains (forward_into_module rules graph s name v explicit).candidates c → Found c.specifier
+      → Contains (forward_target_into_module rules graph s name v explicit).candidates c → Found c.specifier
   into_found s name v at (Some explicit) c has =
       subst (λ (d : SymbolBySpecifier). Found d.specifier) (only_one (record { specifier = v; number = explicit }) c has) at
   into_found s name v at None c has = re_exported_found name v at c has
 
   import_same : (s : SymbolBySpecifier) (name specifier_text : List ℕ) → Found s.specifier → Follows s.specifier specifier_text
-      → forward_of_import rules graph s name specifier_text (resolve_specifier graph s.specifier specifier_text)
-      ≡ forward_of_import rules other s name specifier_text
+      → forward_target_of_import rules graph s name specifier_text (resolve_specifier graph s.specifier specifier_text)
+      ≡ forward_target_of_import rules other s name specifier_text
       (resolve_specifier other s.specifier specifier_text)
   import_same s name specifier_text at follows =
       by (resolve_specifier graph s.specifier specifier_text) refl
-      ∙ ap (forward_of_import rules other s name specifier_text) (same_target graph other Follows queried alike s.specifier specifier_text at follows)
+      ∙ ap (forward_target_of_import rules other s name specifier_text) (same_target graph other Follows queried alike s.specifier specifier_text at follows)
     where
       by : (found : Option (List ℕ)) → resolve_specifier graph s.specifier specifier_text ≡ found
-          → forward_of_import rules graph s name specifier_text found ≡ forward_of_import rules other s name specifier_text found
+          → forward_target_of_import rules graph s name specifier_text found ≡ forward_target_of_import rules other s name specifier_text found
       by None is = refl
       by (Some v) is = into_same s name v (target_found graph Follows queried s.specifier specifier_text v at follows is)
 
   import_found : (s : SymbolBySpecifier) (name specifier_text : List ℕ) → Found s.specifier → Follows s.specifier specifier_text → (found : Option (List ℕ))
       → resolve_specifier graph s.specifier specifier_text ≡ found → (c : SymbolBySpecifier)
-      → Contains (forward_of_import rules graph s name specifier_text found).candidates c → Found c.specifier
+      → Contains (forward_target_of_import rules graph s name specifier_text found).candidates c → Found c.specifier
   import_found s name specifier_text at follows None is c has = absurd (contains_nothing c has)
   import_found s name specifier_text at follows (Some v) is c has =
       into_found s name v (target_found graph Follows queried s.specifier specifier_text v at follows is) (explicit_export graph v name) c has
@@ -156,7 +157,7 @@ module _ (rules : Rules) (graph other : GraphView) (Follows : FollowedSpecifiers
       by (file_ref all_names specifier_text) is = refl
       by (file_ref (one_name name) specifier_text) is =
           ap forwards (import_same s name specifier_text at (imports s decl (one_name name) specifier_text at has is))
-      by (target id) is = ap (λ (changes : List Change). forwards (forward_within_module s (symbol_of_ident_after_changes changes id)))
+      by (target id) is = ap (λ (changes : List Change). forwards (forward_target_within_module s (symbol_of_ident_after_changes changes id)))
           (changes_same s.specifier at)
       by (qualified_target id parts) is = ap (λ (changes : List Change). alias_target s id parts (symbol_of_ident_after_changes changes id))
           (changes_same s.specifier at)
@@ -165,7 +166,7 @@ module _ (rules : Rules) (graph other : GraphView) (Follows : FollowedSpecifiers
   marks = marks_of graph Follows queried
 
   same_module_marked : (s : SymbolBySpecifier) → Found s.specifier → (t : Option SymbolId) → (c : SymbolBySpecifier)
-      → Contains (forward_within_module s t).candidates c → Found c.specifier
+      → Contains (forward_target_within_module s t).candidates c → Found c.specifier
   same_module_marked s at None c has = absurd (contains_nothing c has)
   same_module_marked s at (Some t) c has =
       subst (λ (d : SymbolBySpecifier). Found d.specifier) (only_one (record { specifier = s.specifier; number = t }) c has) at
@@ -211,7 +212,7 @@ module _ (rules : Rules) (graph other : GraphView) (Follows : FollowedSpecifiers
       by : (u : Option SymbolId) → exported_part_target graph decl p ps u ≡ exported_part_target other decl p ps u
       by (Some u) = refl
       by None =
-          ap (λ (decls : List Declaration). if bytes_eq prototype_name p && option_map_or (decl_node_satisfies is_class)
+          ap (λ (decls : List Declaration). if bytes_eq prototype_name p && option_map_or (decl_node_satisfies is_class_exported_or_not)
           (slice_get decls decl.index) false then itself else part_is_unresolved
           (record { specifier = decl.symbol.specifier; reason = no_part p; parts = p ∷ ps }))
           (declarations_same decl.symbol at)

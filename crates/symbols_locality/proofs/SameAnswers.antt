@@ -13,7 +13,7 @@ use Rattle.symbols_table.specs.QualifiedNames.{qualified_name}
 use Rattle.symbols_table.specs.SymbolViews.{SymbolView, symbol_after_changes}
 use Rattle.symbols_deps.specs.DeclDependencies.{AreDeclDependencies}
 use Rattle.symbols_root.specs.declared.rules.Rules.{Rules}
-use Rattle.symbols_root.specs.GraphModules.{changes_of_module, symbol_in_module}
+use Rattle.symbols_root.specs.GraphModules.{table_changes_of_module, symbol_in_module}
 use Rattle.symbols_root.specs.TypesChains.{types_chain, get_prefer_types, resolved_module_specifier}
 use Rattle.symbols_exports.specs.ExportAnswers.{AreExportListsCorrectAndUnique}
 use Rattle.symbols_exports.specs.Exports.{ExportEntry}
@@ -33,10 +33,10 @@ use Rattle.symbols_answers.specs.Answers.{answer_name, answer_deps, answer_paths
 use Rattle.symbols_answers.specs.QueryAnswers.{some_if_strict}
 use Rattle.symbols_answers.specs.Meanings.{IsAnswerOfExports, public_names_of_entries, IsAnswerOfPublicNames, IsAnswerOfDeps, IsAnswerOfPaths}
 use Rattle.symbols_answers.specs.Meanings.{IsAnswerToQuestion, last_analyzable_module, IsAnswerOnModule, IsAnswerInForm, IsAnswerToQuery}
-use Rattle.symbols_answers.specs.Seen.{FollowedSpecifiers, StarSpecifiers, queried_specifier_is_looked_up, is_requested, AreAlikeWhereLookedUp}
+use Rattle.symbols_answers.specs.Seen.{FollowedSpecifierRelation, IsStarSpecifierOfModule, queried_specifier_is_looked_up, is_requested, AreAlikeWhereLookedUp}
 use Rattle.symbols_locality.proofs.FoundModules.{IsFound}
 use Rattle.symbols_locality.proofs.SearchMarks.{FollowsStars, marks_of}
-use Rattle.symbols_answers.specs.QueryReach.{IsFollowedBySearch, import_type_specifier_is_followed, specifiers_followed_by_question, AreAlikeForQuery}
+use Rattle.symbols_answers.specs.QueryReach.{IsFollowedBySearch, import_type_specifier_is_followed, IsSpecifierFollowedForQuestion, AreAlikeForQuery}
 use Rattle.symbols_root.specs.laws.TypesChains.{types_chain_is_unique}
 use Rattle.symbols_paths.specs.laws.OneOutcome.{found_forest_is_unique}
 use Rattle.symbols_locality.proofs.SeenAlike.{same_chain, same_changes}
@@ -51,7 +51,7 @@ use Rattle.symbols_locality.proofs.SameReferences.{routes, IsReferenceFollowed, 
 module _ (rules : Rules) (graph other : GraphView) (listed : (start : List ℕ) → AreExportListsCorrectAndUnique graph start)
     (other_listed : (start : List ℕ) → AreExportListsCorrectAndUnique other start) (queried : List ℕ) (question : QuestionView)
     (alike : AreAlikeWhereLookedUp graph other (IsFollowedBySearch graph queried question) queried) where
-  abbrev Follows : FollowedSpecifiers
+  abbrev Follows : FollowedSpecifierRelation
   Follows = IsFollowedBySearch graph queried question
 
   abbrev Found : List ℕ → Type 0
@@ -103,11 +103,11 @@ module _ (rules : Rules) (graph other : GraphView) (listed : (start : List ℕ) 
 
 module _ (rules : Rules) (graph other : GraphView) (listed : (start : List ℕ) → AreExportListsCorrectAndUnique graph start)
     (other_listed : (start : List ℕ) → AreExportListsCorrectAndUnique other start) (queried : List ℕ)
-    (alike : AreAlikeWhereLookedUp graph other (StarSpecifiers graph) queried) where
-  stars : FollowsStars graph (StarSpecifiers graph) queried
+    (alike : AreAlikeWhereLookedUp graph other (IsStarSpecifierOfModule graph) queried) where
+  stars : FollowsStars graph (IsStarSpecifierOfModule graph) queried
   stars v specifier_text at has = has
 
-  exports_same : (v : List ℕ) → IsFound graph (StarSpecifiers graph) queried v → (a b : AnswerView) → IsAnswerOfExports rules graph v a
+  exports_same : (v : List ℕ) → IsFound graph (IsStarSpecifierOfModule graph) queried v → (a b : AnswerView) → IsAnswerOfExports rules graph v a
       → IsAnswerOfExports rules other v b → a ≡ b
   exports_same v at a b x y =
       let exports_here : x.entries ≡ exports_of graph v = (listed v).exports_are_unique x.entries x.are_exports in
@@ -118,32 +118,32 @@ module _ (rules : Rules) (graph other : GraphView) (listed : (start : List ℕ) 
       let unresolved_there : y.unresolved ≡ unresolved_stars_of other v = (other_listed v).unresolved_are_unique y.unresolved y.are_unresolved in
       let exports : map (export_view_of_entry graph v) x.entries ≡ map (export_view_of_entry other v) y.entries = ap
       (map (export_view_of_entry graph v)) exports_here
-      ∙ (same_export_views graph other (StarSpecifiers graph) queried alike stars v at (listed v) (other_listed v)
+      ∙ (same_export_views graph other (IsStarSpecifierOfModule graph) queried alike stars v at (listed v) (other_listed v)
       ∙ ap (map (export_view_of_entry other v)) (sym exports_there)) in
       let shared : map (shared_name_view_of_entry graph v) x.shared ≡ map (shared_name_view_of_entry other v) y.shared =
       ap (map (shared_name_view_of_entry graph v)) shared_here
-      ∙ (same_shared_name_views graph other (StarSpecifiers graph) queried alike stars v at (listed v) (other_listed v)
+      ∙ (same_shared_name_views graph other (IsStarSpecifierOfModule graph) queried alike stars v at (listed v) (other_listed v)
       ∙ ap (map (shared_name_view_of_entry other v)) (sym shared_there)) in
       let unresolved : map (star_statement_view graph) x.unresolved ≡ map (star_statement_view other) y.unresolved =
       ap (map (star_statement_view graph)) unresolved_here
-      ∙ (same_unresolved_views graph other (StarSpecifiers graph) queried alike stars v at (listed v) (other_listed v)
+      ∙ (same_unresolved_views graph other (IsStarSpecifierOfModule graph) queried alike stars v at (listed v) (other_listed v)
       ∙ ap (map (star_statement_view other)) (sym unresolved_there)) in
       x.answer_is ∙ ((λ i. answer_exports (exports i) (some_if_strict rules (shared i)) (unresolved i)) ∙ sym y.answer_is)
 
-  names_same : (v : List ℕ) → IsFound graph (StarSpecifiers graph) queried v → (a b : AnswerView) → IsAnswerOfPublicNames graph v a
+  names_same : (v : List ℕ) → IsFound graph (IsStarSpecifierOfModule graph) queried v → (a b : AnswerView) → IsAnswerOfPublicNames graph v a
       → IsAnswerOfPublicNames other v b → a ≡ b
   names_same v at a b x y =
       let exports_here : x.entries ≡ exports_of graph v = (listed v).exports_are_unique x.entries x.are_exports in
       let exports_there : y.entries ≡ exports_of other v = (other_listed v).exports_are_unique y.entries y.are_exports in
       x.answer_is ∙ (ap (λ (entries : List ExportEntry). answer_names (public_names_of_entries graph entries)) exports_here
-      ∙ (ap answer_names (same_names graph other (StarSpecifiers graph) queried alike stars v at (listed v) (other_listed v))
+      ∙ (ap answer_names (same_names graph other (IsStarSpecifierOfModule graph) queried alike stars v at (listed v) (other_listed v))
       ∙ (ap (λ (entries : List ExportEntry). answer_names (public_names_of_entries other entries)) (sym exports_there) ∙ sym y.answer_is)))
 
 -- ---- the queried module alone
 
-module _ (graph other : GraphView) (v : List ℕ) (same : changes_of_module graph v ≡ changes_of_module other v) where
-  symbol_same : (name : IdView) (a b : AnswerView) → a ≡ answer_symbol (symbol_of_ident_after_changes (changes_of_module graph v) name)
-      → b ≡ answer_symbol (symbol_of_ident_after_changes (changes_of_module other v) name) → a ≡ b
+module _ (graph other : GraphView) (v : List ℕ) (same : table_changes_of_module graph v ≡ table_changes_of_module other v) where
+  symbol_same : (name : IdView) (a b : AnswerView) → a ≡ answer_symbol (symbol_of_ident_after_changes (table_changes_of_module graph v) name)
+      → b ≡ answer_symbol (symbol_of_ident_after_changes (table_changes_of_module other v) name) → a ≡ b
   symbol_same name a b x y = x ∙ (ap (λ (changes : List Change). answer_symbol (symbol_of_ident_after_changes changes name)) same ∙ sym y)
 
   name_same : (s : SymbolId) (a b : AnswerView) → a ≡ answer_name (qualified_name (symbol_in_module graph v) s)
@@ -164,14 +164,14 @@ module _ (graph other : GraphView) (v : List ℕ) (same : changes_of_module grap
 module _ (rules : Rules) (graph other : GraphView) (listed : (start : List ℕ) → AreExportListsCorrectAndUnique graph start)
     (other_listed : (start : List ℕ) → AreExportListsCorrectAndUnique other start) (queried : List ℕ) where
   found : (question : QuestionView) (v : List ℕ) → resolved_module_specifier graph queried ≡ Some v
-      → IsFound graph (specifiers_followed_by_question graph queried question) queried v
+      → IsFound graph (IsSpecifierFollowedForQuestion graph queried question) queried v
   found question v is = record { key = queried; requested = queried_specifier_is_looked_up; resolves = is }
 
-  changes_same : (question : QuestionView) → AreAlikeWhereLookedUp graph other (specifiers_followed_by_question graph queried question) queried → (v : List ℕ)
-      → resolved_module_specifier graph queried ≡ Some v → changes_of_module graph v ≡ changes_of_module other v
-  changes_same question alike v is = same_changes graph other (specifiers_followed_by_question graph queried question) queried alike v (found question v is)
+  changes_same : (question : QuestionView) → AreAlikeWhereLookedUp graph other (IsSpecifierFollowedForQuestion graph queried question) queried → (v : List ℕ)
+      → resolved_module_specifier graph queried ≡ Some v → table_changes_of_module graph v ≡ table_changes_of_module other v
+  changes_same question alike v is = same_changes graph other (IsSpecifierFollowedForQuestion graph queried question) queried alike v (found question v is)
 
-  question_same : (question : QuestionView) → AreAlikeWhereLookedUp graph other (specifiers_followed_by_question graph queried question) queried → (v : List ℕ)
+  question_same : (question : QuestionView) → AreAlikeWhereLookedUp graph other (IsSpecifierFollowedForQuestion graph queried question) queried → (v : List ℕ)
       → resolved_module_specifier graph queried ≡ Some v → (a b : AnswerView) → IsAnswerToQuestion rules graph v question a
       → IsAnswerToQuestion rules other v question b → a ≡ b
   question_same query_module alike v is a b x y = x ∙ sym y
@@ -213,7 +213,7 @@ same_module_answer rules graph other listed other_listed query alike a b x y =
 
     chain_there : y.chain ≡ types_chain graph query.specifier
     chain_there = (types_chain_is_unique other query.specifier).only y.chain y.is_chain.is_chain
-        ∙ sym (same_chain graph other (specifiers_followed_by_question graph query.specifier query.question) query.specifier alike query.specifier
+        ∙ sym (same_chain graph other (IsSpecifierFollowedForQuestion graph query.specifier query.question) query.specifier alike query.specifier
         (is_requested queried_specifier_is_looked_up))
 
     by : (module_found : Option ModuleView) → get_prefer_types graph query.specifier ≡ module_found → Means graph a module_found → Means other b module_found

@@ -16,7 +16,7 @@ use Rattle.symbols_paths.specs.DepAnswers.{path_entries, ReferencedSymbolWithPar
 use Rattle.symbols_paths.specs.DepAnswers.{unresolved_part_path}
 use Rattle.symbols_paths.specs.DepAnswers.{entry_of_imported_module, entries_of_reference_without_symbol}
 use Rattle.symbols_answers.specs.Questions.{QuestionView}
-use Rattle.symbols_answers.specs.Seen.{FollowedSpecifiers, AreAlikeWhereLookedUp}
+use Rattle.symbols_answers.specs.Seen.{FollowedSpecifierRelation, AreAlikeWhereLookedUp}
 use Rattle.symbols_locality.proofs.FoundModules.{IsFound}
 use Rattle.symbols_locality.proofs.AlikeRoutes.{AreRoutesAlike}
 use Rattle.symbols_locality.proofs.SearchMarks.{FollowsStars, FollowsImports, marks_of}
@@ -27,7 +27,7 @@ use Rattle.symbols_locality.proofs.RoutesAlike.{routes_alike, import_part_same, 
 module _ (rules : Rules) (graph other : GraphView) (listed : (start : List ℕ) → AreExportListsCorrectAndUnique graph start)
     (other_listed : (start : List ℕ) → AreExportListsCorrectAndUnique other start) (queried : List ℕ) (question : QuestionView)
     (alike : AreAlikeWhereLookedUp graph other (IsFollowedBySearch graph queried question) queried) where
-  abbrev Follows : FollowedSpecifiers
+  abbrev Follows : FollowedSpecifierRelation
   Follows = IsFollowedBySearch graph queried question
 
   abbrev Found : List ℕ → Type 0

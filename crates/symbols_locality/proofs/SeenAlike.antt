@@ -7,16 +7,16 @@ use Rattle.std.proofs.lemmas.Option.{none-some, same_Some}
 use Rattle.symbols_ast.specs.Graph.{GraphView, ModuleView, module_after_redirect, content_types_dependency, resolved_dependency}
 use Rattle.symbols_table.specs.Analysis.{table_changes_from_tree_or_json}
 use Rattle.symbols_table.specs.Modules.{analyzable_source}
-use Rattle.symbols_table.specs.Changes.{Change, export_stars_after, exports_after}
-use Rattle.symbols_root.specs.GraphModules.{changes_of_module}
+use Rattle.symbols_table.specs.Changes.{Change, export_stars_after_changes, exports_after_changes}
+use Rattle.symbols_root.specs.GraphModules.{table_changes_of_module}
 use Rattle.symbols_root.specs.Specifiers.{module_with_specifier}
 use Rattle.symbols_root.specs.TypesChains.{is_analyzable, types_chain, get_prefer_types, resolved_module_specifier, AreTypesModulesFrom, IsTypesChain}
 use Rattle.symbols_root.specs.laws.Specifiers.{redirected_module_has_its_specifier}
 use Rattle.symbols_root.specs.laws.TypesChains.{types_chain_is_unique}
 use Rattle.symbols_exports.specs.StarStatements.{star_specifiers, resolve_specifier, star_targets_of, explicit_exports_of}
 use Rattle.symbols_locality.proofs.StarReach.{IsReachedAlongStars, at_start, by_star, AreAlikeAlongStars}
-use Rattle.symbols_answers.specs.Seen.{FollowedSpecifiers, resolved_specifier_is_looked_up, IsSpecifierLookedUp, is_requested, types_dependency_is_looked_up}
-use Rattle.symbols_answers.specs.Seen.{AreAlikeWhereLookedUp}
+use Rattle.symbols_answers.specs.Seen.{FollowedSpecifierRelation, resolved_specifier_is_looked_up, IsSpecifierLookedUp, is_requested}
+use Rattle.symbols_answers.specs.Seen.{types_dependency_is_looked_up, AreAlikeWhereLookedUp}
 use Rattle.symbols_locality.proofs.FoundModules.{IsFound, IsUnder}
 use Rattle.symbols_locality.proofs.Lists.{first_or_later, found_there, reversed_there, same_map, mapped_at}
 
@@ -56,7 +56,7 @@ module _ (graph : GraphView) (Has : List ℕ → Type 0) (candidate_has_no_path 
           (chain_under key at (types_chain graph key) (types_chain_is_unique graph key).is_chain.is_types_dependency_path.in_order m
           (reversed_there (types_chain graph key) m (found_there is_analyzable (reverse (types_chain graph key)) m there)))
 
-module _ (graph : GraphView) (Follows : FollowedSpecifiers) (queried : List ℕ) where
+module _ (graph : GraphView) (Follows : FollowedSpecifierRelation) (queried : List ℕ) where
   -- a found module is under a seen specifier
   pub found_under_seen : (u : List ℕ) → IsFound graph Follows queried u → IsUnder graph (IsSpecifierLookedUp graph Follows queried) u
   found_under_seen u at = resolved_under graph (IsSpecifierLookedUp graph Follows queried)
@@ -80,7 +80,7 @@ module _ (graph : GraphView) (Follows : FollowedSpecifiers) (queried : List ℕ)
 
 -- ---- two graphs
 
-module _ (graph other : GraphView) (Follows : FollowedSpecifiers) (queried : List ℕ) (alike : AreAlikeWhereLookedUp graph other Follows queried) where
+module _ (graph other : GraphView) (Follows : FollowedSpecifierRelation) (queried : List ℕ) (alike : AreAlikeWhereLookedUp graph other Follows queried) where
   in_order_there : (key : List ℕ) → IsSpecifierLookedUp graph Follows queried key → (list : List ModuleView)
       → AreTypesModulesFrom graph (module_after_redirect graph key) list → AreTypesModulesFrom other (module_after_redirect other key) list
   in_order_there key seen [] are = tt
@@ -169,13 +169,13 @@ module _ (graph other : GraphView) (Follows : FollowedSpecifiers) (queried : Lis
       (redirected_module_has_its_specifier graph at.key at.found at.under ∙ sym (redirected_module_has_its_specifier other at.key at.found
       (sym (alike.same_modules at.key at.has) ∙ at.under)))
 
-  pub same_changes : (u : List ℕ) → IsFound graph Follows queried u → changes_of_module graph u ≡ changes_of_module other u
+  pub same_changes : (u : List ℕ) → IsFound graph Follows queried u → table_changes_of_module graph u ≡ table_changes_of_module other u
   same_changes u at =
       ap (λ (found : Option ModuleView). option_map_or table_changes_from_tree_or_json (option_and_then (λ m. analyzable_source m.content) found) [])
       (same_module u at)
 
   pub same_star_specifiers : (u : List ℕ) → IsFound graph Follows queried u → star_specifiers graph u ≡ star_specifiers other u
-  same_star_specifiers u at = ap (λ (changes : List Change). map (λ star. star.specifier_text) (export_stars_after changes)) (same_changes u at)
+  same_star_specifiers u at = ap (λ (changes : List Change). map (λ star. star.specifier_text) (export_stars_after_changes changes)) (same_changes u at)
 
   -- its `export *` statements, if they are followed
   module _ (stars : (u specifier_text : List ℕ) → IsFound graph Follows queried u → Contains (star_specifiers graph u) specifier_text
@@ -198,5 +198,5 @@ module _ (graph other : GraphView) (Follows : FollowedSpecifiers) (queried : Lis
         → AreAlikeAlongStars (star_targets_of graph) (explicit_exports_of graph) (star_targets_of other) (explicit_exports_of other) start
     alike_from start at = record {
       same_statements = λ v is. same_star_targets v (along_found start at v is);
-      same_explicit = λ v is. ap (λ (changes : List Change). exports_after changes (record { 0 = 0 })) (same_changes v (along_found start at v is));
+      same_explicit = λ v is. ap (λ (changes : List Change). exports_after_changes changes (record { 0 = 0 })) (same_changes v (along_found start at v is));
     }

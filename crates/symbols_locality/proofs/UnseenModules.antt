@@ -6,9 +6,9 @@ use Rattle.std.proofs.lemmas.Option.{none-some, same_Some}
 use Rattle.symbols_ast.specs.Graph.{GraphView, ModuleView, Resolution, specifier_after_redirect}
 use Rattle.symbols_ast.specs.Graph.{resolved_dependency}
 use Rattle.symbols_answers.specs.Questions.{QueryView}
-use Rattle.symbols_answers.specs.Seen.{FollowedSpecifiers, IsRequested, queried_specifier_is_looked_up, resolved_specifier_is_looked_up, IsSpecifierLookedUp}
-use Rattle.symbols_answers.specs.Seen.{is_requested, types_dependency_is_looked_up}
-use Rattle.symbols_answers.specs.QueryReach.{specifiers_followed_by_question, IsModuleNotLookedUpByQuery}
+use Rattle.symbols_answers.specs.Seen.{FollowedSpecifierRelation, IsSpecifierReachedByFollowing, queried_specifier_is_looked_up}
+use Rattle.symbols_answers.specs.Seen.{resolved_specifier_is_looked_up, IsSpecifierLookedUp, is_requested, types_dependency_is_looked_up}
+use Rattle.symbols_answers.specs.QueryReach.{IsSpecifierFollowedForQuestion, IsModuleNotLookedUpByQuery}
 use Rattle.symbols_locality.specs.ChangedModule.{IsUnreferenced}
 use Rattle.symbols_locality.proofs.Lists.{found_there}
 
@@ -28,13 +28,15 @@ module _ (graph : GraphView) (specifier : List ℕ) (unreferenced : IsUnreferenc
           unreferenced.is_no_resolution_target r (found_there is_it graph.resolutions r is) (ap (specifier_after_redirect graph) (same_Some r.specifier next e)
           ∙ it)
 
-  unrequested : (Follows : FollowedSpecifiers) (queried : List ℕ) → (IsIt queried → ⊥) → (key : List ℕ) → IsRequested graph Follows queried key
+  unrequested : (Follows : FollowedSpecifierRelation) (queried : List ℕ) → (IsIt queried → ⊥) → (key : List ℕ) → IsSpecifierReachedByFollowing graph Follows
+      queried key
       → IsIt key → ⊥
   unrequested Follows queried other key queried_specifier_is_looked_up it = other it
   unrequested Follows queried other key (resolved_specifier_is_looked_up before referrer specifier_text requested at follows resolves) it =
       not_resolved referrer specifier_text key resolves it
 
-  unseen : (Follows : FollowedSpecifiers) (queried : List ℕ) → (IsIt queried → ⊥) → (key : List ℕ) → IsSpecifierLookedUp graph Follows queried key → IsIt key
+  unseen : (Follows : FollowedSpecifierRelation) (queried : List ℕ) → (IsIt queried → ⊥) → (key : List ℕ) → IsSpecifierLookedUp graph Follows queried key
+      → IsIt key
       → ⊥
   unseen Follows queried other key (is_requested requested) it = unrequested Follows queried other key requested it
   unseen Follows queried other key (types_dependency_is_looked_up before m seen under types) it =
@@ -44,4 +46,4 @@ module _ (graph : GraphView) (specifier : List ℕ) (unreferenced : IsUnreferenc
 pub unseen_by_query : (graph : GraphView) (query : QueryView) (specifier : List ℕ) → IsUnreferenced graph specifier
     → (specifier_after_redirect graph query.specifier ≡ specifier → ⊥) → IsModuleNotLookedUpByQuery graph query specifier
 unseen_by_query graph query specifier unreferenced other =
-    unseen graph specifier unreferenced (specifiers_followed_by_question graph query.specifier query.question) query.specifier other
+    unseen graph specifier unreferenced (IsSpecifierFollowedForQuestion graph query.specifier query.question) query.specifier other

@@ -6,7 +6,7 @@ use Rattle.std.specs.Str.{chars}
 use Rattle.unicode_ident.specs.Ident.{is_xid_start, is_xid_continue}
 use Rattle.symbols_ast.specs.declared.tree.kinds.Kind.{Kind}
 use Rattle.symbols_ast.specs.declared.tree.kinds.Expr.TheVariants as Expr
-use Rattle.symbols_ast.specs.ChildFields.{left_of, obj_of, prop_of, right_of, expr_of}
+use Rattle.symbols_ast.specs.ChildFields.{left_child_of, obj_child_of, prop_child_of, right_child_of, expr_child_of}
 use Rattle.symbols_ast.specs.NodeRefs.{TreeNode, kind_of, child_in_field}
 
 -- An identifier may start with `$`, `_` or a letter.
@@ -33,7 +33,7 @@ str_literal_value _ = None
 -- The name after the dot, or the string in brackets.
 abbrev pub prop_name_by_kind : TreeNode → Kind → Option (List ℕ)
 prop_name_by_kind prop (Kind.Expr (Expr.IdentName name)) = Some (string_bytes name)
-prop_name_by_kind prop (Kind.Expr (Expr.Computed _)) = option_and_then str_literal_value (option_and_then kind_of (child_in_field prop expr_of))
+prop_name_by_kind prop (Kind.Expr (Expr.Computed _)) = option_and_then str_literal_value (option_and_then kind_of (child_in_field prop expr_child_of))
 prop_name_by_kind prop _ = None
 
 abbrev pub prop_name : TreeNode → Option (List ℕ)
@@ -62,12 +62,13 @@ expando_of_member_expr right member =
     option_and_then (λ (prop : TreeNode).
     option_and_then (λ (name : List ℕ). expando_if_valid (record { member = member; object = object; prop = prop; name = name; right = right }))
     (prop_name prop))
-    (child_in_field member prop_of))
-    (child_in_field member obj_of)
+    (child_in_field member prop_child_of))
+    (child_in_field member obj_child_of)
 
 -- The expando assignment that a node is, if it is one.
 abbrev pub expando_of_assignment : TreeNode → Option Expando
 expando_of_assignment node =
     if option_map_or is_simple_assignment (kind_of node) false
-    then option_and_then (λ (right : TreeNode). option_and_then (expando_of_member_expr right) (child_in_field node left_of)) (child_in_field node right_of)
+    then option_and_then (λ (right : TreeNode). option_and_then (expando_of_member_expr right) (child_in_field node left_child_of))
+    (child_in_field node right_child_of)
     else None

@@ -2,7 +2,7 @@
 use Rattle.std.specs.Prelude.{Bool, true, false, is_some, Option, Some}
 use Rattle.std.specs.Option.{option_and_then, option_map_or}
 use Rattle.symbols_ast.specs.NodeRefs.{TreeNode, kind_of, child_in_field}
-use Rattle.symbols_ast.specs.ChildFields.{function_of, body_node_of, decl_of}
+use Rattle.symbols_ast.specs.ChildFields.{function_child_of, body_child_of, decl_child_of}
 use Rattle.symbols_ast.specs.declared.tree.kinds.Kind.{Kind}
 use Rattle.symbols_ast.specs.declared.tree.kinds.Decl.TheVariants as Decl
 use Rattle.symbols_ast.specs.declared.tree.kinds.Member.TheVariants as Member
@@ -13,72 +13,72 @@ use Rattle.symbols_nodes.specs.NodeViews.{class_decl, fn_decl, ts_enum, ts_inter
 
 -- A test of the kind of the declaration after `export default`; false without a declaration.
 abbrev pub default_decl_satisfies : (Kind → Bool) → TreeNode → Bool
-default_decl_satisfies test node = option_map_or test (option_and_then kind_of (child_in_field node decl_of)) false
+default_decl_satisfies test node = option_map_or test (option_and_then kind_of (child_in_field node decl_child_of)) false
 
-abbrev pub is_class_expr : Kind → Bool
-is_class_expr (Kind.Decl (Decl.ClassExpr _ _)) = true
-is_class_expr _ = false
+abbrev pub is_class_expr_kind : Kind → Bool
+is_class_expr_kind (Kind.Decl (Decl.ClassExpr _ _)) = true
+is_class_expr_kind _ = false
 
-abbrev pub is_fn_expr : Kind → Bool
-is_fn_expr (Kind.Decl (Decl.FnExpr _ _)) = true
-is_fn_expr _ = false
+abbrev pub is_fn_expr_kind : Kind → Bool
+is_fn_expr_kind (Kind.Decl (Decl.FnExpr _ _)) = true
+is_fn_expr_kind _ = false
 
-abbrev pub is_interface_decl : Kind → Bool
-is_interface_decl (Kind.Decl (Decl.TsInterfaceDecl _ _ _ _)) = true
-is_interface_decl _ = false
+abbrev pub is_interface_decl_kind : Kind → Bool
+is_interface_decl_kind (Kind.Decl (Decl.TsInterfaceDecl _ _ _ _)) = true
+is_interface_decl_kind _ = false
 
 abbrev pub is_exported_class : ExportDeclView → Bool
 is_exported_class (exported_class _) = true
 is_exported_class _ = false
 
 -- A class: without `export`, exported, or default.
-abbrev pub is_class : SymbolNodeView → Bool
-is_class (class_decl _) = true
-is_class (export_decl _ exported) = is_exported_class exported
-is_class (export_default_decl node) = default_decl_satisfies is_class_expr node
-is_class _ = false
+abbrev pub is_class_exported_or_not : SymbolNodeView → Bool
+is_class_exported_or_not (class_decl _) = true
+is_class_exported_or_not (export_decl _ exported) = is_exported_class exported
+is_class_exported_or_not (export_default_decl node) = default_decl_satisfies is_class_expr_kind node
+is_class_exported_or_not _ = false
 
 abbrev pub is_exported_function : ExportDeclView → Bool
 is_exported_function (exported_fn _) = true
 is_exported_function _ = false
 
 -- A function: without `export`, exported, or default.
-abbrev pub is_function : SymbolNodeView → Bool
-is_function (fn_decl _) = true
-is_function (export_decl _ exported) = is_exported_function exported
-is_function (export_default_decl node) = default_decl_satisfies is_fn_expr node
-is_function _ = false
+abbrev pub is_function_exported_or_not : SymbolNodeView → Bool
+is_function_exported_or_not (fn_decl _) = true
+is_function_exported_or_not (export_decl _ exported) = is_exported_function exported
+is_function_exported_or_not (export_default_decl node) = default_decl_satisfies is_fn_expr_kind node
+is_function_exported_or_not _ = false
 
 abbrev pub is_exported_interface : ExportDeclView → Bool
 is_exported_interface (exported_ts_interface _) = true
 is_exported_interface _ = false
 
 -- An interface: without `export`, exported, or default.
-abbrev pub is_interface : SymbolNodeView → Bool
-is_interface (ts_interface _) = true
-is_interface (export_decl _ exported) = is_exported_interface exported
-is_interface (export_default_decl node) = default_decl_satisfies is_interface_decl node
-is_interface _ = false
+abbrev pub is_interface_exported_or_not : SymbolNodeView → Bool
+is_interface_exported_or_not (ts_interface _) = true
+is_interface_exported_or_not (export_decl _ exported) = is_exported_interface exported
+is_interface_exported_or_not (export_default_decl node) = default_decl_satisfies is_interface_decl_kind node
+is_interface_exported_or_not _ = false
 
 abbrev pub is_exported_ts_namespace : ExportDeclView → Bool
 is_exported_ts_namespace (exported_ts_module _) = true
 is_exported_ts_namespace _ = false
 
 -- A namespace, exported or not.
-abbrev pub is_ts_namespace : SymbolNodeView → Bool
-is_ts_namespace (ts_namespace _) = true
-is_ts_namespace (export_decl _ exported) = is_exported_ts_namespace exported
-is_ts_namespace _ = false
+abbrev pub is_ts_namespace_exported_or_not : SymbolNodeView → Bool
+is_ts_namespace_exported_or_not (ts_namespace _) = true
+is_ts_namespace_exported_or_not (export_decl _ exported) = is_exported_ts_namespace exported
+is_ts_namespace_exported_or_not _ = false
 
 abbrev pub is_exported_var : ExportDeclView → Bool
 is_exported_var (exported_var _ _ _) = true
 is_exported_var _ = false
 
 -- A variable of `var`, `let` or `const`, exported or not.
-abbrev pub is_var : SymbolNodeView → Bool
-is_var (var _ _ _) = true
-is_var (export_decl _ exported) = is_exported_var exported
-is_var _ = false
+abbrev pub is_var_exported_or_not : SymbolNodeView → Bool
+is_var_exported_or_not (var _ _ _) = true
+is_var_exported_or_not (export_decl _ exported) = is_exported_var exported
+is_var_exported_or_not _ = false
 
 abbrev pub is_ctor : SymbolNodeView → Bool
 is_ctor (constructor _) = true
@@ -97,11 +97,11 @@ has_export_keyword _ = false
 
 -- The node itself has a body, as a namespace or a constructor may have.
 abbrev pub has_direct_body : TreeNode → Bool
-has_direct_body node = is_some (child_in_field node body_node_of)
+has_direct_body node = is_some (child_in_field node body_child_of)
 
 -- The function of the node has a body.
 abbrev pub has_function_body : TreeNode → Bool
-has_function_body node = option_map_or has_direct_body (child_in_field node function_of) false
+has_function_body node = option_map_or has_direct_body (child_in_field node function_child_of) false
 
 abbrev pub exported_decl_has_body : ExportDeclView → Bool
 exported_decl_has_body (exported_class _) = true
@@ -122,7 +122,7 @@ default_decl_has_body node _ = false
 abbrev pub has_body : SymbolNodeView → Bool
 has_body (program _) = true
 has_body (export_decl _ exported) = exported_decl_has_body exported
-has_body (export_default_decl node) = option_map_or (λ decl. default_decl_has_body decl (kind_of decl)) (child_in_field node decl_of) false
+has_body (export_default_decl node) = option_map_or (λ decl. default_decl_has_body decl (kind_of decl)) (child_in_field node decl_child_of) false
 has_body (class_decl _) = true
 has_body (ts_enum _) = true
 has_body (ts_interface _) = true

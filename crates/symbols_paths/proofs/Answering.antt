@@ -28,7 +28,7 @@ use Rattle.symbols_paths.specs.Computed.{search_limit, paths_with_parts, definit
 use Rattle.symbols_paths.specs.Views.{symbol_by_specifier}
 use Rattle.symbols_paths.specs.inner.Views.{symbol_of_unique_id}
 use Rattle.symbols_paths.specs.inner.PathBuilders.{built_paths, modules_of_builders}
-use Rattle.symbols_paths.specs.inner.SearchSteps.{symbols_of_unique_ids, HasSearched, ArePathsFoundForSymbol, ArePathsFoundWithParts}
+use Rattle.symbols_paths.specs.inner.SearchSteps.{symbols_of_unique_ids, AreVisitedGrownAndModulesStored, ArePathsFoundForSymbol, ArePathsFoundWithParts}
 use Rattle.symbols_paths.specs.Answers.{AreDefinitionPathsWithParts, AreDefinitionPaths, AreDefinitionPathsWithAnyParts, symbol_in_root}
 use Rattle.symbols_paths.specs.Answers.{IsFindDefinitionPathsFault}
 use Rattle.symbols_paths.proofs.GrownRoots.{same_links}
@@ -115,7 +115,7 @@ is_computed rules graph s ps f after x few =
 module _ {old new : RootView} {module_id : ModuleId} {s : SymbolId} {u : UniqueSymbolId} (builders : List PathBuilder) {after : List UniqueSymbolId}
     (known : module_id.0 < length old.stored) (in_module : u.module_id ≡ module_id) (number : u.symbol_id
     ≡ s) (grown : HasGrown old new) (found : ArePathsFoundForSymbol new [] [] u builders after)
-    (searched_it : HasSearched new [] after (modules_of_builders builders)) where
+    (searched_it : AreVisitedGrownAndModulesStored new [] after (modules_of_builders builders)) where
   pub found_before : IsOutcomeOfSymbolSearch (search_targets_of_root old) search_limit [] [] (symbol_by_specifier old module_id s) (built_paths new builders)
       (symbols_of_unique_ids new after)
   found_before =
@@ -140,7 +140,7 @@ module _ {old new : RootView} {module_id : ModuleId} {s : SymbolId} {u : UniqueS
 module _ {old new : RootView} (u : UniqueSymbolId) (parts : QualifiedNameParts) (builders : List PathBuilder) {after : List UniqueSymbolId}
     (known : u.module_id.0
     < length old.stored) (grown : HasGrown old new) (walked_it : ArePathsFoundWithParts new [] [] u parts builders after)
-    (searched_it : HasSearched new [] after
+    (searched_it : AreVisitedGrownAndModulesStored new [] after
     (modules_of_builders builders)) where
   walked_before : IsOutcomeOfSearchWithParts (search_targets_of_root old) search_limit [] [] (symbol_of_unique_id old u) parts (built_paths new builders)
       (symbols_of_unique_ids new after)

@@ -13,10 +13,11 @@ use Rattle.symbols_paths.specs.declared.path_builder.Segment.{Segment}
 use Rattle.symbols_paths.specs.declared.path_builder.PathBuilder.{PathBuilder}
 use Rattle.symbols_paths.specs.declared.path_builder.PathBuilder.TheVariants as builder
 use Rattle.symbols_paths.specs.PathTrees.{QualifiedNameParts, PathForest, leaf, forest_of_tree, joined_forests}
-use Rattle.symbols_paths.specs.inner.ReplacedDefinitions.{definitions_of_tree, definitions_of_forest, rebuilt_tree, rebuilt}
+use Rattle.symbols_paths.specs.inner.ReplacedDefinitions.{definitions_of_tree, definitions_of_forest, tree_with_definitions_replaced}
+use Rattle.symbols_paths.specs.inner.ReplacedDefinitions.{forest_with_definitions_replaced}
 use Rattle.symbols_paths.specs.Views.{definition_by_specifier, path_leaf_of_end, module_of_definition, AreModulesStored}
-use Rattle.symbols_paths.specs.inner.PathBuilders.{link_heads_of_segments, link_heads_with_parts, forest_below_links, built_path, built_paths}
-use Rattle.symbols_paths.specs.inner.PathBuilders.{built_paths_of_option, modules_of_builder, modules_of_builders, builders_among}
+use Rattle.symbols_paths.specs.inner.PathBuilders.{reversed_link_heads_of_segments, link_heads_with_parts_replaced, forest_below_reversed_links, built_path}
+use Rattle.symbols_paths.specs.inner.PathBuilders.{built_paths, built_paths_of_option, modules_of_builder, modules_of_builders, builders_among}
 use Rattle.symbols_paths.proofs.LoopInvariants.{join_none, join_assoc}
 use Rattle.symbols_paths.proofs.BuilderLemmas.{named_to, named_fork, named_with_option, stored_apart, none_stored, stored_with_option}
 use Rattle.symbols_paths.proofs.BuilderLemmas.{stored_one, rebuilt_linked, rebuilt_join, rebuilt_one, defined_linked, defined_join}
@@ -86,7 +87,7 @@ pub defined_to : (root : RootView) (xs : Vec Segment Global) (end : DefinitionOr
 defined_to root xs end =
     let path_of_end = forest_of_tree (leaf (path_leaf_of_end root end)) in
     ap definitions_of_forest (named_to root xs end)
-    ∙ (defined_linked (link_heads_of_segments root xs.items) path_of_end ∙ append-nil (definitions_of_tree (leaf (path_leaf_of_end root end))))
+    ∙ (defined_linked (reversed_link_heads_of_segments root xs.items) path_of_end ∙ append-nil (definitions_of_tree (leaf (path_leaf_of_end root end))))
 
 pub defined_fork : (root : RootView) (xs : Vec Segment Global) (branches : Vec PathBuilder Global) (last : Box PathBuilder Global)
     → definitions_of_forest (built_path root (builder.Fork xs branches last))
@@ -94,17 +95,18 @@ pub defined_fork : (root : RootView) (xs : Vec Segment Global) (branches : Vec P
 defined_fork root xs branches last =
     let next = joined_forests (built_paths root branches.items) (built_path root last.value) in
     ap definitions_of_forest (named_fork root xs branches last)
-    ∙ (defined_linked (link_heads_of_segments root xs.items) next ∙ defined_join (built_paths root branches.items) (built_path root last.value))
+    ∙ (defined_linked (reversed_link_heads_of_segments root xs.items) next ∙ defined_join (built_paths root branches.items) (built_path root last.value))
 
 -- ---- the loop that replaces definitions: `found` so far, `rest` of the builders left, `ready` the replacements left
 
 pub record AreRebuilt (parts : QualifiedNameParts) (found rest : List PathBuilder) (ready : List (Option PathBuilder)) (builders : List PathBuilder)
     (at_search_start : List
     (Option PathBuilder)) : Type 0 where
-  pub view : (root : RootView) → joined_forests (built_paths root found) (rebuilt parts (built_paths root rest) (map (built_paths_of_option root) ready)).0
-      ≡ (rebuilt parts (built_paths root builders) (map (built_paths_of_option root) at_search_start)).0
-  pub left : (root : RootView) → (rebuilt parts (built_paths root rest) (map (built_paths_of_option root) ready)).1
-      ≡ (rebuilt parts (built_paths root builders) (map (built_paths_of_option root) at_search_start)).1
+  pub view : (root : RootView) → joined_forests (built_paths root found)
+      (forest_with_definitions_replaced parts (built_paths root rest) (map (built_paths_of_option root) ready)).0
+      ≡ (forest_with_definitions_replaced parts (built_paths root builders) (map (built_paths_of_option root) at_search_start)).0
+  pub left : (root : RootView) → (forest_with_definitions_replaced parts (built_paths root rest) (map (built_paths_of_option root) ready)).1
+      ≡ (forest_with_definitions_replaced parts (built_paths root builders) (map (built_paths_of_option root) at_search_start)).1
   pub stored : (root : RootView) → AreModulesStored root (modules_of_builders builders) → AreModulesStored root
       (modules_of_builders (builders_among at_search_start))
       → AreModulesStored root (modules_of_builders found)
@@ -113,21 +115,24 @@ pub record AreRebuilt (parts : QualifiedNameParts) (found rest : List PathBuilde
 pub rebuilt_next : {parts : QualifiedNameParts} {found rest : List PathBuilder} {ready branches : List (Option PathBuilder)} {builders : List PathBuilder}
     {at_search_start : List
     (Option PathBuilder)} (builder : PathBuilder) (put : Option PathBuilder) → AreRebuilt parts found (builder ∷ rest) ready builders at_search_start
-    → ((root : RootView) → built_paths_of_option root put ≡ (rebuilt parts (built_path root builder) (map (built_paths_of_option root) ready)).0)
-    → ((root : RootView) → map (built_paths_of_option root) branches ≡ (rebuilt parts (built_path root builder) (map (built_paths_of_option root) ready)).1)
+    → ((root : RootView) → built_paths_of_option root put ≡ (forest_with_definitions_replaced parts (built_path root builder)
+    (map (built_paths_of_option root) ready)).0)
+    → ((root : RootView) → map (built_paths_of_option root) branches
+    ≡ (forest_with_definitions_replaced parts (built_path root builder) (map (built_paths_of_option root) ready)).1)
     → ((root : RootView) → AreModulesStored root (modules_of_builder builder) → AreModulesStored root (modules_of_builders (builders_among ready))
     → AreModulesStored root (modules_of_builders (option_to_list put)) × AreModulesStored root (modules_of_builders (builders_among branches)))
     → AreRebuilt parts (found ++ option_to_list put) rest branches builders at_search_start
 rebuilt_next {parts = parts} {found = found} {rest = rest} {ready = ready} {branches = branches} builder put is put_is left_is stored = record {
   view = λ root.
-      let r = rebuilt parts (built_path root builder) (map (built_paths_of_option root) ready) in
-      (λ i. joined_forests (named_with_option root found put i) (rebuilt parts (built_paths root rest) (left_is root i)).0)
-      ∙ (join_assoc (built_paths root found) (built_paths_of_option root put) (rebuilt parts (built_paths root rest) r.1).0
-      ∙ (ap (λ g. joined_forests (built_paths root found) (joined_forests g (rebuilt parts (built_paths root rest) r.1).0)) (put_is root)
+      let r = forest_with_definitions_replaced parts (built_path root builder) (map (built_paths_of_option root) ready) in
+      (λ i. joined_forests (named_with_option root found put i) (forest_with_definitions_replaced parts (built_paths root rest) (left_is root i)).0)
+      ∙ (join_assoc (built_paths root found) (built_paths_of_option root put) (forest_with_definitions_replaced parts (built_paths root rest) r.1).0
+      ∙ (ap (λ g. joined_forests (built_paths root found) (joined_forests g (forest_with_definitions_replaced parts (built_paths root rest) r.1).0))
+      (put_is root)
       ∙ (ap (λ (p : PathForest × List PathForest). joined_forests (built_paths root found) p.0) (sym
       (rebuilt_join parts (built_path root builder) (built_paths root rest) (map (built_paths_of_option root) ready))) ∙ is.view root)));
   left = λ root.
-      ap (λ gs. (rebuilt parts (built_paths root rest) gs).1) (left_is root)
+      ap (λ gs. (forest_with_definitions_replaced parts (built_paths root rest) gs).1) (left_is root)
       ∙ (ap (λ (p : PathForest × List PathForest).
       p.1) (sym (rebuilt_join parts (built_path root builder) (built_paths root rest) (map (built_paths_of_option root) ready))) ∙ is.left root);
   stored = λ root a b.
@@ -140,54 +145,59 @@ rebuilt_next {parts = parts} {found = found} {rest = rest} {ready = ready} {bran
 pub rebuilt_last : {parts : QualifiedNameParts} {found rest : List PathBuilder} {ready : List (Option PathBuilder)} {builders : List PathBuilder}
     {at_search_start : List
     (Option PathBuilder)} → AreRebuilt parts found rest ready builders at_search_start → rest ≡ [] → (root : RootView)
-    → (built_paths root found ≡ (rebuilt parts (built_paths root builders) (map (built_paths_of_option root) at_search_start)).0)
-    × (map (built_paths_of_option root) ready ≡ (rebuilt parts (built_paths root builders) (map (built_paths_of_option root) at_search_start)).1)
+    → (built_paths root found ≡ (forest_with_definitions_replaced parts (built_paths root builders) (map (built_paths_of_option root) at_search_start)).0)
+    × (map (built_paths_of_option root) ready ≡ (forest_with_definitions_replaced parts (built_paths root builders)
+    (map (built_paths_of_option root) at_search_start)).1)
 rebuilt_last {parts = parts} {found = found} {ready = ready} is over root = (
   sym (join_none (built_paths root found)) ∙ (ap (λ xs.
-      joined_forests (built_paths root found) (rebuilt parts (built_paths root xs) (map (built_paths_of_option root) ready)).0) (sym over) ∙ is.view root),
-  ap (λ xs. (rebuilt parts (built_paths root xs) (map (built_paths_of_option root) ready)).1) (sym over) ∙ is.left root,
+      joined_forests (built_paths root found) (forest_with_definitions_replaced parts (built_paths root xs) (map (built_paths_of_option root) ready)).0)
+      (sym over) ∙ is.view root),
+  ap (λ xs. (forest_with_definitions_replaced parts (built_paths root xs) (map (built_paths_of_option root) ready)).1) (sym over) ∙ is.left root,
 )
 
 -- a builder with an end, and one with branches, with their definitions replaced
 pub rebuilt_to : (root : RootView) (parts : QualifiedNameParts) (xs : Vec Segment Global) (end : DefinitionOrUnresolved) (ready : List PathForest)
-    → rebuilt parts (built_path root (builder.End xs end)) ready ≡ (
-      forest_below_links (link_heads_with_parts parts (link_heads_of_segments root xs.items))
-          (rebuilt_tree parts (leaf (path_leaf_of_end root end)) ready).0,
-      (rebuilt_tree parts (leaf (path_leaf_of_end root end)) ready).1,
+    → forest_with_definitions_replaced parts (built_path root (builder.End xs end)) ready ≡ (
+      forest_below_reversed_links (link_heads_with_parts_replaced parts (reversed_link_heads_of_segments root xs.items))
+          (tree_with_definitions_replaced parts (leaf (path_leaf_of_end root end)) ready).0,
+      (tree_with_definitions_replaced parts (leaf (path_leaf_of_end root end)) ready).1,
     )
 rebuilt_to root parts xs end ready =
-    let heads = link_heads_with_parts parts (link_heads_of_segments root xs.items) in
+    let heads = link_heads_with_parts_replaced parts (reversed_link_heads_of_segments root xs.items) in
     let here = leaf (path_leaf_of_end root end) in
-    ap (λ f. rebuilt parts f ready) (named_to root xs end) ∙ (rebuilt_linked parts (link_heads_of_segments root xs.items) (forest_of_tree here) ready
-    ∙ (λ i. (forest_below_links heads (rebuilt_one parts here ready i).0, (rebuilt_one parts here ready i).1)))
+    ap (λ f. forest_with_definitions_replaced parts f ready) (named_to root xs end)
+    ∙ (rebuilt_linked parts (reversed_link_heads_of_segments root xs.items) (forest_of_tree here) ready
+    ∙ (λ i. (forest_below_reversed_links heads (rebuilt_one parts here ready i).0, (rebuilt_one parts here ready i).1)))
 
 pub rebuilt_fork : (root : RootView) (parts : QualifiedNameParts) (xs : Vec Segment Global) (branches : Vec PathBuilder Global) (last : Box PathBuilder Global)
     (ready : List
-    PathForest) → rebuilt parts (built_path root (builder.Fork xs branches last)) ready
+    PathForest) → forest_with_definitions_replaced parts (built_path root (builder.Fork xs branches last)) ready
     ≡ (
-      forest_below_links (link_heads_with_parts parts (link_heads_of_segments root xs.items))
-          (rebuilt parts (joined_forests (built_paths root branches.items) (built_path root last.value))
+      forest_below_reversed_links (link_heads_with_parts_replaced parts (reversed_link_heads_of_segments root xs.items))
+          (forest_with_definitions_replaced parts (joined_forests (built_paths root branches.items) (built_path root last.value))
           ready).0,
-      (rebuilt parts (joined_forests (built_paths root branches.items) (built_path root last.value)) ready).1,
+      (forest_with_definitions_replaced parts (joined_forests (built_paths root branches.items) (built_path root last.value)) ready).1,
     )
 rebuilt_fork root parts xs branches last ready =
-    ap (λ f. rebuilt parts f ready) (named_fork root xs branches last)
-    ∙ rebuilt_linked parts (link_heads_of_segments root xs.items) (joined_forests (built_paths root branches.items) (built_path root last.value)) ready
+    ap (λ f. forest_with_definitions_replaced parts f ready) (named_fork root xs branches last)
+    ∙ rebuilt_linked parts (reversed_link_heads_of_segments root xs.items) (joined_forests (built_paths root branches.items) (built_path root last.value)) ready
 
 -- the branches and the last one, with their definitions replaced
-pub both_rebuilt : (parts : QualifiedNameParts) (f g : PathForest) (ready mid : List PathForest) (a b : PathForest) → a ≡ (rebuilt parts f ready).0
-    → mid ≡ (rebuilt parts f ready).1
-    → b ≡ (rebuilt parts g mid).0 → joined_forests a b ≡ (rebuilt parts (joined_forests f g) ready).0
+pub both_rebuilt : (parts : QualifiedNameParts) (f g : PathForest) (ready mid : List PathForest) (a b : PathForest) → a
+    ≡ (forest_with_definitions_replaced parts f ready).0
+    → mid ≡ (forest_with_definitions_replaced parts f ready).1
+    → b ≡ (forest_with_definitions_replaced parts g mid).0 → joined_forests a b ≡ (forest_with_definitions_replaced parts (joined_forests f g) ready).0
 both_rebuilt parts f g ready mid a b a_is mid_is b_is =
     (λ i. joined_forests (a_is i) (b_is i))
-    ∙ (ap (λ m. joined_forests (rebuilt parts f ready).0 (rebuilt parts g m).0) mid_is
+    ∙ (ap (λ m. joined_forests (forest_with_definitions_replaced parts f ready).0 (forest_with_definitions_replaced parts g m).0) mid_is
     ∙ ap (λ (p : PathForest × List PathForest). p.0) (sym (rebuilt_join parts f g ready)))
 
-pub left_of_both : (parts : QualifiedNameParts) (f g : PathForest) (ready mid rest : List PathForest) → mid ≡ (rebuilt parts f ready).1
-    → rest ≡ (rebuilt parts g mid).1
-    → rest ≡ (rebuilt parts (joined_forests f g) ready).1
+pub left_of_both : (parts : QualifiedNameParts) (f g : PathForest) (ready mid rest : List PathForest) → mid ≡ (forest_with_definitions_replaced parts f ready).1
+    → rest ≡ (forest_with_definitions_replaced parts g mid).1
+    → rest ≡ (forest_with_definitions_replaced parts (joined_forests f g) ready).1
 left_of_both parts f g ready mid rest mid_is rest_is =
-    rest_is ∙ (ap (λ m. (rebuilt parts g m).1) mid_is ∙ ap (λ (p : PathForest × List PathForest). p.1) (sym (rebuilt_join parts f g ready)))
+    rest_is ∙ (ap (λ m. (forest_with_definitions_replaced parts g m).1) mid_is ∙ ap (λ (p : PathForest × List PathForest). p.1)
+    (sym (rebuilt_join parts f g ready)))
 
 -- the replacements without the first are of stored modules, and so is the first
 pub popped_stored : (root : RootView) (popped : Option (Option PathBuilder)) (rest at_search_start : List (Option PathBuilder)) → at_search_start

@@ -19,15 +19,16 @@ use Rattle.symbols_paths.specs.declared.path_builder.PathBuilder.TheOpen as open
 use Rattle.symbols_paths.specs.declared.path_builder.PathBuilder.TheVariants as builder
 use Rattle.symbols_paths.specs.declared.path_builder.PathBuilder.TheViews.{roll-PathBuilder}
 use Rattle.symbols_paths.specs.PathTrees.{QualifiedNameParts, LinkHead, PathTree, PathForest, leaf, link, no_trees, more_trees, forest_of_tree, joined_forests}
-use Rattle.symbols_paths.specs.PathTrees.{link_unless_empty}
-use Rattle.symbols_paths.specs.Derived.{link_head_with_parts}
-use Rattle.symbols_paths.specs.inner.ReplacedDefinitions.{definitions_of_tree, definitions_of_forest, rebuilt_tree, rebuilt}
+use Rattle.symbols_paths.specs.PathTrees.{forest_below_link_unless_empty}
+use Rattle.symbols_paths.specs.Derived.{link_head_with_parts_replaced}
+use Rattle.symbols_paths.specs.inner.ReplacedDefinitions.{definitions_of_tree, definitions_of_forest, tree_with_definitions_replaced}
+use Rattle.symbols_paths.specs.inner.ReplacedDefinitions.{forest_with_definitions_replaced}
 use Rattle.symbols_paths.specs.Views.{path_leaf_of_end, module_of_end, concat_module_ids, AreModulesStored}
-use Rattle.symbols_paths.specs.inner.PathBuilders.{remaining_parts, link_head_of_step, link_heads_with_parts, concat_link_heads, fold_segment_to_link_heads}
-use Rattle.symbols_paths.specs.inner.PathBuilders.{link_heads_of_segment, link_heads_of_segments, forest_below_links}
-use Rattle.symbols_paths.specs.inner.PathBuilders.{concat_forests, fold_builder_to_forest, built_path, built_paths, built_paths_of_option}
-use Rattle.symbols_paths.specs.inner.PathBuilders.{fold_segment_to_modules}
-use Rattle.symbols_paths.specs.inner.PathBuilders.{modules_of_segment, modules_of_segments, fold_builder_to_modules, modules_of_builder, modules_of_builders}
+use Rattle.symbols_paths.specs.inner.PathBuilders.{remaining_parts, link_head_of_step, link_heads_with_parts_replaced, concat_link_heads}
+use Rattle.symbols_paths.specs.inner.PathBuilders.{fold_segment_to_reversed_link_heads, reversed_link_heads_of_segment, reversed_link_heads_of_segments}
+use Rattle.symbols_paths.specs.inner.PathBuilders.{forest_below_reversed_links, concat_forests, fold_builder_to_forest, built_path, built_paths}
+use Rattle.symbols_paths.specs.inner.PathBuilders.{built_paths_of_option, fold_segment_to_modules, modules_of_segment, modules_of_segments}
+use Rattle.symbols_paths.specs.inner.PathBuilders.{fold_builder_to_modules, modules_of_builder, modules_of_builders}
 use Rattle.symbols_paths.proofs.NamedPathLemmas.{none_at, stored_both, Ids}
 use Rattle.symbols_paths.proofs.LoopInvariants.{join_none, join_assoc}
 
@@ -37,13 +38,15 @@ Heads = List LinkHead
 -- ---- the paths and the modules of each form
 
 pub named_to : (root : RootView) (xs : Vec Segment Global) (end : DefinitionOrUnresolved)
-    → built_path root (builder.End xs end) ≡ forest_below_links (link_heads_of_segments root xs.items) (forest_of_tree (leaf (path_leaf_of_end root end)))
+    → built_path root (builder.End xs end) ≡ forest_below_reversed_links (reversed_link_heads_of_segments root xs.items)
+    (forest_of_tree (leaf (path_leaf_of_end root end)))
 named_to root xs end = ap (built_path root) (sym (builder.rolls-End xs end))
     ∙ fold-roll-PathBuilder PathForest (fold_builder_to_forest root) (open_builder.End xs end)
 
 pub named_fork : (root : RootView) (xs : Vec Segment Global) (branches : Vec PathBuilder Global) (last : Box PathBuilder Global)
     → built_path root (builder.Fork xs branches last)
-    ≡ forest_below_links (link_heads_of_segments root xs.items) (joined_forests (built_paths root branches.items) (built_path root last.value))
+    ≡ forest_below_reversed_links (reversed_link_heads_of_segments root xs.items)
+    (joined_forests (built_paths root branches.items) (built_path root last.value))
 named_fork root xs branches last = ap (built_path root) (sym (builder.rolls-Fork xs branches last))
     ∙ fold-roll-PathBuilder PathForest (fold_builder_to_forest root) (open_builder.Fork xs branches last)
 
@@ -56,14 +59,15 @@ pub modules_fork : (xs : Vec Segment Global) (branches : Vec PathBuilder Global)
 modules_fork xs branches last = ap modules_of_builder (sym (builder.rolls-Fork xs branches last))
     ∙ fold-roll-PathBuilder Ids fold_builder_to_modules (open_builder.Fork xs branches last)
 
-pub heads_of_step : (root : RootView) (step : LinkStep) → link_heads_of_segment root (segment.LinkStep step) ≡ link_head_of_step root step ∷ []
-heads_of_step root step = ap (link_heads_of_segment root) (sym (segment.rolls-LinkStep step))
-    ∙ fold-roll-Segment Heads (fold_segment_to_link_heads root) (open_segment.LinkStep step)
+pub heads_of_step : (root : RootView) (step : LinkStep) → reversed_link_heads_of_segment root (segment.LinkStep step) ≡ link_head_of_step root step ∷ []
+heads_of_step root step = ap (reversed_link_heads_of_segment root) (sym (segment.rolls-LinkStep step))
+    ∙ fold-roll-Segment Heads (fold_segment_to_reversed_link_heads root) (open_segment.LinkStep step)
 
 pub heads_of_under : (root : RootView) (parts : SharedParts) (inner : Vec Segment Global)
-    → link_heads_of_segment root (segment.WithParts parts inner) ≡ link_heads_with_parts (remaining_parts parts) (link_heads_of_segments root inner.items)
-heads_of_under root parts inner = ap (link_heads_of_segment root) (sym (segment.rolls-WithParts parts inner))
-    ∙ fold-roll-Segment Heads (fold_segment_to_link_heads root) (open_segment.WithParts parts inner)
+    → reversed_link_heads_of_segment root (segment.WithParts parts inner) ≡ link_heads_with_parts_replaced (remaining_parts parts)
+    (reversed_link_heads_of_segments root inner.items)
+heads_of_under root parts inner = ap (reversed_link_heads_of_segment root) (sym (segment.rolls-WithParts parts inner))
+    ∙ fold-roll-Segment Heads (fold_segment_to_reversed_link_heads root) (open_segment.WithParts parts inner)
 
 pub modules_of_one_step : (step : LinkStep) → modules_of_segment (segment.LinkStep step) ≡ step.symbol.module_id ∷ []
 modules_of_one_step step = ap modules_of_segment (sym (segment.rolls-LinkStep step))
@@ -75,34 +79,37 @@ modules_of_under parts inner = ap modules_of_segment (sym (segment.rolls-WithPar
 
 -- ---- links
 
-pub linked_on : (xs ys : List LinkHead) (f : PathForest) → forest_below_links (xs ++ ys) f ≡ forest_below_links ys (forest_below_links xs f)
+pub linked_on : (xs ys : List LinkHead) (f : PathForest) → forest_below_reversed_links (xs ++ ys) f
+    ≡ forest_below_reversed_links ys (forest_below_reversed_links xs f)
 linked_on [] ys f = refl
-linked_on (x ∷ xs) ys f = linked_on xs ys (link_unless_empty x f)
+linked_on (x ∷ xs) ys f = linked_on xs ys (forest_below_link_unless_empty x f)
 
 all_heads_on : (xs ys : List (List LinkHead)) → concat_link_heads (xs ++ ys) ≡ concat_link_heads xs ++ concat_link_heads ys
 all_heads_on [] ys = refl
 all_heads_on (x ∷ xs) ys = ap (λ z. x ++ z) (all_heads_on xs ys) ∙ sym (append_assoc x (concat_link_heads xs) (concat_link_heads ys))
 
 -- the links of segments with one more at the end of the list
-pub heads_with : (root : RootView) (xs : List Segment) (x : Segment) → link_heads_of_segments root (xs ++ x ∷ []) ≡ link_heads_of_segments root xs
-    ++ link_heads_of_segment root x
-heads_with root xs x = ap concat_link_heads (map-append (link_heads_of_segment root) xs (x ∷ []))
-    ∙ (all_heads_on (map (link_heads_of_segment root) xs) (link_heads_of_segment root x ∷ [])
-    ∙ ap (λ z. link_heads_of_segments root xs ++ z) (append-nil (link_heads_of_segment root x)))
+pub heads_with : (root : RootView) (xs : List Segment) (x : Segment) → reversed_link_heads_of_segments root (xs ++ x ∷ [])
+    ≡ reversed_link_heads_of_segments root xs
+    ++ reversed_link_heads_of_segment root x
+heads_with root xs x = ap concat_link_heads (map-append (reversed_link_heads_of_segment root) xs (x ∷ []))
+    ∙ (all_heads_on (map (reversed_link_heads_of_segment root) xs) (reversed_link_heads_of_segment root x ∷ [])
+    ∙ ap (λ z. reversed_link_heads_of_segments root xs ++ z) (append-nil (reversed_link_heads_of_segment root x)))
 
 pub linked_with : (root : RootView) (xs ys : List Segment) (x : Segment) (f : PathForest) → ys ≡ xs ++ x ∷ []
-    → forest_below_links (link_heads_of_segments root ys) f ≡ forest_below_links (link_heads_of_segment root x)
-    (forest_below_links (link_heads_of_segments root xs) f)
-linked_with root xs ys x f e = ap (λ zs. forest_below_links (link_heads_of_segments root zs) f) e
-    ∙ (ap (λ hs. forest_below_links hs f) (heads_with root xs x) ∙ linked_on (link_heads_of_segments root xs) (link_heads_of_segment root x) f)
+    → forest_below_reversed_links (reversed_link_heads_of_segments root ys) f ≡ forest_below_reversed_links (reversed_link_heads_of_segment root x)
+    (forest_below_reversed_links (reversed_link_heads_of_segments root xs) f)
+linked_with root xs ys x f e = ap (λ zs. forest_below_reversed_links (reversed_link_heads_of_segments root zs) f) e
+    ∙ (ap (λ hs. forest_below_reversed_links hs f) (heads_with root xs x) ∙ linked_on (reversed_link_heads_of_segments root xs)
+    (reversed_link_heads_of_segment root x) f)
 
 -- if parts are laid over links twice, the outer parts remain
 pub under_twice : (outer inner : QualifiedNameParts) (heads : List LinkHead)
-    → link_heads_with_parts outer (link_heads_with_parts inner heads) ≡ link_heads_with_parts outer heads
+    → link_heads_with_parts_replaced outer (link_heads_with_parts_replaced inner heads) ≡ link_heads_with_parts_replaced outer heads
 under_twice outer inner [] = refl
-under_twice outer inner (head ∷ heads) = ap (λ hs. link_head_with_parts head outer ∷ hs) (under_twice outer inner heads)
+under_twice outer inner (head ∷ heads) = ap (λ hs. link_head_with_parts_replaced head outer ∷ hs) (under_twice outer inner heads)
 
-pub linked_none : (heads : List LinkHead) → forest_below_links heads no_trees ≡ no_trees
+pub linked_none : (heads : List LinkHead) → forest_below_reversed_links heads no_trees ≡ no_trees
 linked_none [] = refl
 linked_none (head ∷ heads) = linked_none heads
 
@@ -181,38 +188,54 @@ stored_segment root xs ys x rest e a b =
 -- ---- builders with their definitions replaced
 
 rebuilt_link_to : (ps : QualifiedNameParts) (head : LinkHead) (f : PathForest) (gs : List PathForest)
-    → rebuilt ps (link_unless_empty head f) gs ≡ (link_unless_empty (link_head_with_parts head ps) (rebuilt ps f gs).0, (rebuilt ps f gs).1)
+    → forest_with_definitions_replaced ps (forest_below_link_unless_empty head f) gs ≡ (
+      forest_below_link_unless_empty (link_head_with_parts_replaced head ps)
+          (forest_with_definitions_replaced ps f gs).0,
+      (forest_with_definitions_replaced ps f gs).1,
+    )
 rebuilt_link_to ps head no_trees gs = refl
 rebuilt_link_to ps head (more_trees t f) gs =
-    (λ i. (join_none (link_unless_empty (link_head_with_parts head ps) (rebuilt ps (more_trees t f) gs).0) i, (rebuilt ps (more_trees t f) gs).1))
+    (λ i. (
+      join_none (forest_below_link_unless_empty (link_head_with_parts_replaced head ps) (forest_with_definitions_replaced ps (more_trees t f) gs).0) i,
+      (forest_with_definitions_replaced ps (more_trees t f) gs).1,
+    ))
 
 pub rebuilt_linked : (ps : QualifiedNameParts) (heads : List LinkHead) (f : PathForest) (gs : List PathForest)
-    → rebuilt ps (forest_below_links heads f) gs ≡ (forest_below_links (link_heads_with_parts ps heads) (rebuilt ps f gs).0, (rebuilt ps f gs).1)
+    → forest_with_definitions_replaced ps (forest_below_reversed_links heads f) gs ≡ (
+      forest_below_reversed_links (link_heads_with_parts_replaced ps heads)
+          (forest_with_definitions_replaced ps f gs).0,
+      (forest_with_definitions_replaced ps f gs).1,
+    )
 rebuilt_linked ps [] f gs = refl
-rebuilt_linked ps (head ∷ heads) f gs = rebuilt_linked ps heads (link_unless_empty head f) gs
-    ∙ (λ i. (forest_below_links (link_heads_with_parts ps heads) (rebuilt_link_to ps head f gs i).0, (rebuilt_link_to ps head f gs i).1))
+rebuilt_linked ps (head ∷ heads) f gs = rebuilt_linked ps heads (forest_below_link_unless_empty head f) gs
+    ∙ (λ i. (forest_below_reversed_links (link_heads_with_parts_replaced ps heads) (rebuilt_link_to ps head f gs i).0, (rebuilt_link_to ps head f gs i).1))
 
 pub rebuilt_join : (ps : QualifiedNameParts) (f g : PathForest) (gs : List PathForest)
-    → rebuilt ps (joined_forests f g) gs ≡ (joined_forests (rebuilt ps f gs).0 (rebuilt ps g (rebuilt ps f gs).1).0, (rebuilt ps g (rebuilt ps f gs).1).1)
+    → forest_with_definitions_replaced ps (joined_forests f g) gs ≡ (
+      joined_forests (forest_with_definitions_replaced ps f gs).0
+          (forest_with_definitions_replaced ps g (forest_with_definitions_replaced ps f gs).1).0,
+      (forest_with_definitions_replaced ps g (forest_with_definitions_replaced ps f gs).1).1,
+    )
 rebuilt_join ps no_trees g gs = refl
 rebuilt_join ps (more_trees t f) g gs =
-    let r = rebuilt_tree ps t gs in
-    let q = rebuilt ps f r.1 in
+    let r = tree_with_definitions_replaced ps t gs in
+    let q = forest_with_definitions_replaced ps f r.1 in
     (λ i. (joined_forests r.0 (rebuilt_join ps f g r.1 i).0, (rebuilt_join ps f g r.1 i).1))
-    ∙ (λ i. (sym (join_assoc r.0 q.0 (rebuilt ps g q.1).0) i, (rebuilt ps g q.1).1))
+    ∙ (λ i. (sym (join_assoc r.0 q.0 (forest_with_definitions_replaced ps g q.1).0) i, (forest_with_definitions_replaced ps g q.1).1))
 
-pub rebuilt_one : (ps : QualifiedNameParts) (t : PathTree) (gs : List PathForest) → rebuilt ps (forest_of_tree t) gs ≡ rebuilt_tree ps t gs
-rebuilt_one ps t gs = (λ i. (join_none (rebuilt_tree ps t gs).0 i, (rebuilt_tree ps t gs).1))
+pub rebuilt_one : (ps : QualifiedNameParts) (t : PathTree) (gs : List PathForest) → forest_with_definitions_replaced ps (forest_of_tree t) gs
+    ≡ tree_with_definitions_replaced ps t gs
+rebuilt_one ps t gs = (λ i. (join_none (tree_with_definitions_replaced ps t gs).0 i, (tree_with_definitions_replaced ps t gs).1))
 
 -- ---- the definitions of builders
 
-pub defined_link_to : (head : LinkHead) (f : PathForest) → definitions_of_forest (link_unless_empty head f) ≡ definitions_of_forest f
+pub defined_link_to : (head : LinkHead) (f : PathForest) → definitions_of_forest (forest_below_link_unless_empty head f) ≡ definitions_of_forest f
 defined_link_to head no_trees = refl
 defined_link_to head (more_trees t f) = append-nil (definitions_of_forest (more_trees t f))
 
-pub defined_linked : (heads : List LinkHead) (f : PathForest) → definitions_of_forest (forest_below_links heads f) ≡ definitions_of_forest f
+pub defined_linked : (heads : List LinkHead) (f : PathForest) → definitions_of_forest (forest_below_reversed_links heads f) ≡ definitions_of_forest f
 defined_linked [] f = refl
-defined_linked (head ∷ heads) f = defined_linked heads (link_unless_empty head f) ∙ defined_link_to head f
+defined_linked (head ∷ heads) f = defined_linked heads (forest_below_link_unless_empty head f) ∙ defined_link_to head f
 
 pub defined_join : (f g : PathForest) → definitions_of_forest (joined_forests f g) ≡ definitions_of_forest f ++ definitions_of_forest g
 defined_join no_trees g = refl
@@ -224,7 +247,7 @@ defined_join (more_trees t f) g = ap (λ xs. definitions_of_tree t ++ xs) (defin
 abbrev pub IsSome : PathBuilder → Type 0
 IsSome t = (root : RootView) → built_path root t ≡ no_trees → ⊥
 
-linked_some : (heads : List LinkHead) (f : PathForest) → (f ≡ no_trees → ⊥) → forest_below_links heads f ≡ no_trees → ⊥
+linked_some : (heads : List LinkHead) (f : PathForest) → (f ≡ no_trees → ⊥) → forest_below_reversed_links heads f ≡ no_trees → ⊥
 linked_some [] f some e = some e
 linked_some (head ∷ heads) no_trees some e = absurd (some refl)
 linked_some (head ∷ heads) (more_trees t f) some e =
@@ -239,13 +262,13 @@ builder_some = ind-PathBuilder IsSome (λ x y is. subst (λ z. IsSome (roll-Path
   where
     by : (y : open_builder.PathBuilder-F ((t : PathBuilder) × IsSome t))
         → IsSome (roll-PathBuilder (map-PathBuilder ((t : PathBuilder) × IsSome t) PathBuilder (λ e. e.0) y))
-    by (open_builder.End xs end) root e = linked_some (link_heads_of_segments root xs.items) (forest_of_tree (leaf (path_leaf_of_end root end)))
+    by (open_builder.End xs end) root e = linked_some (reversed_link_heads_of_segments root xs.items) (forest_of_tree (leaf (path_leaf_of_end root end)))
         (λ (q : forest_of_tree (leaf (path_leaf_of_end root end)) ≡ no_trees). cc)
         (sym (fold-roll-PathBuilder PathForest (fold_builder_to_forest root) (open_builder.End xs end)) ∙ e)
     by (open_builder.Fork xs branches last) root e =
         let here : open_builder.PathBuilder-F PathBuilder =
         map-PathBuilder ((t : PathBuilder) × IsSome t) PathBuilder (λ e. e.0) (open_builder.Fork xs branches last) in
-        linked_some (link_heads_of_segments root xs.items)
+        linked_some (reversed_link_heads_of_segments root xs.items)
         (joined_forests (concat_forests (map (built_path root) (map (λ (e : (t : PathBuilder) × IsSome t). e.0)
         branches.items))) (built_path root last.value.0)) (join_some (concat_forests (map (built_path root) (map (λ (e : (t : PathBuilder) × IsSome t). e.0)
         branches.items))) (built_path root last.value.0) (last.value.1 root)) (sym (fold-roll-PathBuilder PathForest (fold_builder_to_forest root) here) ∙ e)

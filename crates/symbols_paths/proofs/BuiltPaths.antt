@@ -6,11 +6,11 @@ use Rattle.symbols_paths.specs.declared.definition_path.DefinitionPathNode.{Defi
 use Rattle.symbols_paths.specs.declared.path_builder.Segment.{Segment}
 use Rattle.symbols_paths.specs.declared.path_builder.PathBuilder.{PathBuilder}
 use Rattle.symbols_paths.specs.PathTrees.{QualifiedNameParts, LinkHead, more_trees, joined_forests}
-use Rattle.symbols_paths.specs.Derived.{link_head_with_parts}
+use Rattle.symbols_paths.specs.Derived.{link_head_with_parts_replaced}
 use Rattle.symbols_paths.specs.Views.{path_by_specifier, paths_by_specifier, concat_module_ids, modules_of_path, modules_of_paths, AreModulesStored}
-use Rattle.symbols_paths.specs.inner.PathBuilders.{link_heads_with_parts, link_heads_of_segment, link_heads_of_segments, forest_below_links, built_path}
-use Rattle.symbols_paths.specs.inner.PathBuilders.{built_paths}
-use Rattle.symbols_paths.specs.inner.PathBuilders.{modules_of_segment, modules_of_segments, modules_of_builder, modules_of_builders}
+use Rattle.symbols_paths.specs.inner.PathBuilders.{link_heads_with_parts_replaced, reversed_link_heads_of_segment, reversed_link_heads_of_segments}
+use Rattle.symbols_paths.specs.inner.PathBuilders.{forest_below_reversed_links, built_path, built_paths, modules_of_segment, modules_of_segments}
+use Rattle.symbols_paths.specs.inner.PathBuilders.{modules_of_builder, modules_of_builders}
 use Rattle.symbols_paths.proofs.NamedPathLemmas.{stored_both}
 use Rattle.symbols_paths.proofs.LoopInvariants.{join_none, join_assoc}
 use Rattle.symbols_paths.proofs.BuilderLemmas.{linked_on, stored_apart, none_stored, joined_on}
@@ -19,15 +19,15 @@ use Rattle.symbols_paths.proofs.BuilderLemmas.{linked_on, stored_apart, none_sto
 
 abbrev pub heads_as : Option QualifiedNameParts → List LinkHead → List LinkHead
 heads_as None heads = heads
-heads_as (Some ps) heads = link_heads_with_parts ps heads
+heads_as (Some ps) heads = link_heads_with_parts_replaced ps heads
 
 pub heads_as_on : (over : Option QualifiedNameParts) (xs ys : List LinkHead) → heads_as over (xs ++ ys) ≡ heads_as over xs ++ heads_as over ys
 heads_as_on None xs ys = refl
-heads_as_on (Some ps) xs ys = map-append (λ head. link_head_with_parts head ps) xs ys
+heads_as_on (Some ps) xs ys = map-append (λ head. link_head_with_parts_replaced head ps) xs ys
 
 pub record AreLaid (over : Option QualifiedNameParts) (now : List DefinitionPathNode) (rest all : List Segment) (next : List DefinitionPathNode) : Type 0 where
-  pub view : (root : RootView) → forest_below_links (heads_as over (link_heads_of_segments root rest)) (paths_by_specifier root now)
-      ≡ forest_below_links (heads_as over (link_heads_of_segments root all)) (paths_by_specifier root next)
+  pub view : (root : RootView) → forest_below_reversed_links (heads_as over (reversed_link_heads_of_segments root rest)) (paths_by_specifier root now)
+      ≡ forest_below_reversed_links (heads_as over (reversed_link_heads_of_segments root all)) (paths_by_specifier root next)
   pub stored : (root : RootView) → AreModulesStored root (modules_of_segments all) → AreModulesStored root (modules_of_paths next)
       → AreModulesStored root (modules_of_segments rest) × AreModulesStored root (modules_of_paths now)
 
@@ -37,18 +37,19 @@ laid_first over all next = record { view = λ root. refl; stored = λ root a b. 
 pub laid_next : {over : Option QualifiedNameParts} {now next : List DefinitionPathNode} {rest all : List Segment} (x : Segment)
     (later : List DefinitionPathNode)
     → AreLaid over now (x ∷ rest) all next
-    → ((root : RootView) → paths_by_specifier root later ≡ forest_below_links (heads_as over (link_heads_of_segment root x)) (paths_by_specifier root now))
+    → ((root : RootView) → paths_by_specifier root later ≡ forest_below_reversed_links (heads_as over (reversed_link_heads_of_segment root x))
+    (paths_by_specifier root now))
     → ((root : RootView) → AreModulesStored root (modules_of_segment x) → AreModulesStored root (modules_of_paths now)
     → AreModulesStored root (modules_of_paths later))
     → AreLaid over later rest all next
 laid_next {over = over} {now = now} {rest = rest} x later is view stored = record {
   view = λ root.
-      let here = heads_as over (link_heads_of_segment root x) in
-      let following = heads_as over (link_heads_of_segments root rest) in
-      ap (forest_below_links following) (view root)
+      let here = heads_as over (reversed_link_heads_of_segment root x) in
+      let following = heads_as over (reversed_link_heads_of_segments root rest) in
+      ap (forest_below_reversed_links following) (view root)
       ∙ (sym (linked_on here following (paths_by_specifier root now))
-      ∙ (ap (λ heads. forest_below_links heads (paths_by_specifier root now))
-      (sym (heads_as_on over (link_heads_of_segment root x) (link_heads_of_segments root rest))) ∙ is.view root));
+      ∙ (ap (λ heads. forest_below_reversed_links heads (paths_by_specifier root now))
+      (sym (heads_as_on over (reversed_link_heads_of_segment root x) (reversed_link_heads_of_segments root rest))) ∙ is.view root));
   stored = λ root a b.
       let h = is.stored root a b in
       let split = stored_apart root (modules_of_segment x) (modules_of_segments rest) h.0 in
@@ -56,13 +57,15 @@ laid_next {over = over} {now = now} {rest = rest} x later is view stored = recor
 }
 
 pub laid_last : {over : Option QualifiedNameParts} {now next : List DefinitionPathNode} {rest all : List Segment} → AreLaid over now rest all next → rest ≡ []
-    → (root : RootView) → paths_by_specifier root now ≡ forest_below_links (heads_as over (link_heads_of_segments root all)) (paths_by_specifier root next)
+    → (root : RootView) → paths_by_specifier root now ≡ forest_below_reversed_links (heads_as over (reversed_link_heads_of_segments root all))
+    (paths_by_specifier root next)
 laid_last {over = over} {now = now} {rest = rest} is over_now root = by over ∙ is.view root
   where
     by : (o : Option QualifiedNameParts)
-        → paths_by_specifier root now ≡ forest_below_links (heads_as o (link_heads_of_segments root rest)) (paths_by_specifier root now)
-    by None = ap (λ xs. forest_below_links (link_heads_of_segments root xs) (paths_by_specifier root now)) (sym over_now)
-    by (Some ps) = ap (λ xs. forest_below_links (link_heads_with_parts ps (link_heads_of_segments root xs)) (paths_by_specifier root now)) (sym over_now)
+        → paths_by_specifier root now ≡ forest_below_reversed_links (heads_as o (reversed_link_heads_of_segments root rest)) (paths_by_specifier root now)
+    by None = ap (λ xs. forest_below_reversed_links (reversed_link_heads_of_segments root xs) (paths_by_specifier root now)) (sym over_now)
+    by (Some ps) = ap (λ xs. forest_below_reversed_links (link_heads_with_parts_replaced ps (reversed_link_heads_of_segments root xs))
+        (paths_by_specifier root now)) (sym over_now)
 
 -- ---- paths of two lists
 

@@ -2,10 +2,10 @@
 use Rattle.std.proofs.Common.{◌≡◌, ℕ, zero, suc, ◌+◌, ◌≤◌, true, false, List, [], ◌∷◌, ◌++◌, length, Option, refl, sym, ◌∙◌, ap, arith}
 use Rattle.std.proofs.lemmas.List.{length-append}
 use Rattle.symbols_paths.specs.PathTrees.{SymbolBySpecifier, DeclBySpecifier, QualifiedNameParts, UnresolvedEntry, PathTree, PathForest, no_trees, more_trees}
-use Rattle.symbols_paths.specs.PathTrees.{joined_forests, link_unless_empty}
+use Rattle.symbols_paths.specs.PathTrees.{joined_forests, forest_below_link_unless_empty}
 use Rattle.symbols_paths.specs.DeclTargets.{DeclTargetView}
 use Rattle.symbols_paths.specs.PartTargets.{SearchTargets}
-use Rattle.symbols_paths.specs.Derived.{decl_of_symbol_at_index, link_head_of_forward, alias_link_head, part_link_head, link_head_with_parts}
+use Rattle.symbols_paths.specs.Derived.{decl_of_symbol_at_index, link_head_of_forward, alias_link_head, part_link_head, link_head_with_parts_replaced}
 use Rattle.symbols_paths.specs.Choice.{is_visited, is_alias_being_resolved, IsOutcomeOfSymbolSearch, already_visited, is_new, IsOutcomeOfDeclListSearch}
 use Rattle.symbols_paths.specs.Choice.{no_decl_left, step, IsOutcomeOfDeclSearch}
 use Rattle.symbols_paths.specs.Choice.{decl_is_definition}
@@ -186,14 +186,14 @@ module _ (routes : SearchTargets) (limit : ℕ) (fits_all : limit ≤ search_lim
         x) f after
     follows_computed deep depth decl_is_definition d h = (refl, refl)
     follows_computed deep depth (decl_forwards {s = s} {i = i} {forward = forward} x) d h = let k = tries_computed deep depth x d h in
-        (ap (link_unless_empty (link_head_of_forward s i forward)) k.0, k.1)
+        (ap (forest_below_link_unless_empty (link_head_of_forward s i forward)) k.0, k.1)
     follows_computed deep depth (by_alias_being_resolved {running = running} {s = s} {t = t} {i = i} {ps = ps} e) d h =
-        (ap (link_unless_empty (alias_link_head s i ps)) (resolved_running routes deep running (decl_of_symbol_at_index s i) t ps e), refl)
+        (ap (forest_below_link_unless_empty (alias_link_head s i ps)) (resolved_running routes deep running (decl_of_symbol_at_index s i) t ps e), refl)
     follows_computed zero depth (via_alias e few fits x) d h = absurd (omega (arith, few, d))
     follows_computed (suc deep) depth (via_alias {running = running} {after = after} {s = s} {t = t} {i = i} {ps = ps} e few fits x) d h =
         let k = walks_computed deep search_limit x (omega (arith, d, length-append running (decl_of_symbol_at_index s i ∷ [])))
         (omega (arith, fits, fits_all)) in
-        (ap (link_unless_empty (alias_link_head s i ps)) (resolved_walk routes deep running (decl_of_symbol_at_index s i) t ps e ∙ k.0), refl)
+        (ap (forest_below_link_unless_empty (alias_link_head s i ps)) (resolved_walk routes deep running (decl_of_symbol_at_index s i) t ps e ∙ k.0), refl)
 
     tries_computed : (deep depth : ℕ) {running : List DeclBySpecifier} {visited after : List SymbolBySpecifier} {cs : List SymbolBySpecifier}
         {otherwise : Option UnresolvedEntry}
@@ -245,8 +245,8 @@ module _ (routes : SearchTargets) (limit : ℕ) (fits_all : limit ≤ search_lim
         visited) g after
     change_computed deep depth unresolved_leaf_is_unchanged d h = (refl, refl)
     change_computed deep depth (link_gets_resolved_forest {p = p} {ps = ps} {head = head} x) d h = let k = changes_computed deep depth x d h in
-        (ap (link_unless_empty (link_head_with_parts head (p ∷ ps))) k.0, k.1)
+        (ap (forest_below_link_unless_empty (link_head_with_parts_replaced head (p ∷ ps))) k.0, k.1)
     change_computed deep depth (definition_has_part {p = p} {ps = ps} {x = y} {t = t} e x) d h = let k = walks_computed deep depth x d h in
-        rw e (ap (link_unless_empty (part_link_head y (p ∷ ps))) k.0, k.1)
+        rw e (ap (forest_below_link_unless_empty (part_link_head y (p ∷ ps))) k.0, k.1)
     change_computed deep depth (definition_is_part_itself e) d h = rw e (refl, refl)
     change_computed deep depth (definition_has_no_part e) d h = rw e (refl, refl)

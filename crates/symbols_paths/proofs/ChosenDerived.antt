@@ -2,13 +2,12 @@
 use Rattle.std.proofs.Common.{◌≡◌, ℕ, suc, ◌+◌, ◌⊎◌, inl, inr, List, [], ◌∷◌, Option, None, Some, refl, subst, arith}
 use Rattle.std.specs.Prelude.{Contains}
 use Rattle.symbols_paths.specs.PathTrees.{SymbolBySpecifier, DeclBySpecifier, QualifiedNameParts, UnresolvedEntry, LinkHead, PathTree}
-use Rattle.symbols_paths.specs.PathTrees.{PathForest, link, no_trees, more_trees, joined_forests, link_unless_empty}
+use Rattle.symbols_paths.specs.PathTrees.{PathForest, link, no_trees, more_trees, joined_forests, forest_below_link_unless_empty}
 use Rattle.symbols_paths.specs.DeclTargets.{ForwardTarget, DeclTargetView, forwards}
 use Rattle.symbols_paths.specs.PartTargets.{SearchTargets}
-use Rattle.symbols_paths.specs.Derived.{link_head_of_forward, alias_link_head, part_link_head, link_head_with_parts, IsForestByAnyCandidates}
-use Rattle.symbols_paths.specs.Derived.{IsForestOfDeclsByAnyCandidates, decl_without_path, decl_with_path}
-use Rattle.symbols_paths.specs.Derived.{IsPathOfDeclByAnyCandidate, path_is_definition, via_any_candidate, by_unresolved_entry}
-use Rattle.symbols_paths.specs.Derived.{IsForestWithPartsByAnyCandidates, IsForestWithPartsResolved}
+use Rattle.symbols_paths.specs.Derived.{link_head_of_forward, alias_link_head, part_link_head, link_head_with_parts_replaced, IsForestByAnyCandidates}
+use Rattle.symbols_paths.specs.Derived.{IsForestOfDeclsByAnyCandidates, decl_without_path, decl_with_path, IsPathOfDeclByAnyCandidate, path_is_definition}
+use Rattle.symbols_paths.specs.Derived.{via_any_candidate, by_unresolved_entry, IsForestWithPartsByAnyCandidates, IsForestWithPartsResolved}
 use Rattle.symbols_paths.specs.Derived.{IsTreeWithPartsResolved}
 use Rattle.symbols_paths.specs.Derived as derived
 use Rattle.symbols_paths.specs.Choice.{IsOutcomeOfSymbolSearch, already_visited, is_new, IsOutcomeOfDeclListSearch, no_decl_left, step, IsOutcomeOfDeclSearch}
@@ -30,7 +29,7 @@ module _ (routes : SearchTargets) (limit : ℕ) where
   missing_case : {s : SymbolBySpecifier} {i : ℕ} (forward : ForwardTarget) (otherwise : Option UnresolvedEntry) → forward.otherwise ≡ otherwise
       → (rest : PathForest) {xs : List DeclTargetView} → IsForestOfDeclsByAnyCandidates routes s (i + 1) xs rest
       → IsForestOfDeclsByAnyCandidates routes s i (forwards forward ∷ xs)
-      (joined_forests (link_unless_empty (link_head_of_forward s i forward) (forest_of_unresolved otherwise)) rest)
+      (joined_forests (forest_below_link_unless_empty (link_head_of_forward s i forward) (forest_of_unresolved otherwise)) rest)
   missing_case forward None e rest r = decl_without_path r
   missing_case forward (Some missing) e rest r = decl_with_path (by_unresolved_entry missing e) r
 
@@ -38,14 +37,14 @@ module _ (routes : SearchTargets) (limit : ℕ) where
   link_case : {s : SymbolBySpecifier} {i : ℕ} {x : DeclTargetView} {xs : List DeclTargetView} (head : LinkHead) (f rest : PathForest)
       → ((t : PathTree) (g : PathForest)
       → f ≡ more_trees t g → IsPathOfDeclByAnyCandidate routes s i x (link head (more_trees t g))) → IsForestOfDeclsByAnyCandidates routes s (i + 1) xs rest
-      → IsForestOfDeclsByAnyCandidates routes s i (x ∷ xs) (joined_forests (link_unless_empty head f) rest)
+      → IsForestOfDeclsByAnyCandidates routes s i (x ∷ xs) (joined_forests (forest_below_link_unless_empty head f) rest)
   link_case head no_trees rest h r = decl_without_path r
   link_case head (more_trees t g) rest h r = decl_with_path (h t g refl) r
 
   link_change : {p : List ℕ} {ps : QualifiedNameParts} {z : PathTree} {k : PathForest} (head : LinkHead) (f rest : PathForest)
       → ((t : PathTree) (g : PathForest) → f ≡ more_trees t g
       → IsTreeWithPartsResolved routes p ps z (link head (more_trees t g))) → IsForestWithPartsResolved routes p ps k rest
-      → IsForestWithPartsResolved routes p ps (more_trees z k) (joined_forests (link_unless_empty head f) rest)
+      → IsForestWithPartsResolved routes p ps (more_trees z k) (joined_forests (forest_below_link_unless_empty head f) rest)
   link_change head no_trees rest h r = derived.dropped r
   link_change head (more_trees t g) rest h r = derived.changed (h t g refl) r
 
@@ -102,7 +101,7 @@ module _ (routes : SearchTargets) (limit : ℕ) where
         → IsForestWithPartsResolved routes p ps (more_trees t k) (joined_forests g rest)
     change_derived rest unresolved_leaf_is_unchanged r = derived.changed derived.unresolved_leaf_stays r
     change_derived rest (link_gets_resolved_forest {p = p} {ps = ps} {head = head} {f = f} {g = g} x) r =
-        link_change (link_head_with_parts head (p ∷ ps)) g rest
+        link_change (link_head_with_parts_replaced head (p ∷ ps)) g rest
         (λ y n e. derived.link_gets_parts (subst (IsForestWithPartsResolved routes p ps f) e (changes_derived x))) r
     change_derived rest (definition_has_part {p = p} {ps = ps} {x = d} {t = t} {f = f} q x) r =
         link_change (part_link_head d (p ∷ ps)) f rest (λ y n e. derived.via_next_symbol q (subst (IsForestWithPartsByAnyCandidates routes t ps) e

@@ -16,13 +16,13 @@ use Rattle.symbols_paths.specs.DeclTargets.{decl_targets_of, target_of_decl, dec
 use Rattle.symbols_paths.specs.PartTargets.{search_targets_of_root}
 use Rattle.symbols_paths.specs.Choice.{is_visited}
 use Rattle.symbols_paths.specs.inner.Views.{symbol_of_unique_id}
-use Rattle.symbols_paths.specs.inner.SearchSteps.{AreSymbolsStored, symbols_of_unique_ids, IsTargetOfDeclAtIndex, decl_target_view}
+use Rattle.symbols_paths.specs.inner.SearchSteps.{AreModulesOfSymbolsStored, symbols_of_unique_ids, IsTargetOfDeclAtIndex, decl_target_view}
 use Rattle.symbols_paths.proofs.GrownRoots.{still_numbered}
 use Rattle.symbols_paths.proofs.SearchSteps.{is_symbol, visited_by_name}
 
 -- a symbol is visited by its id if and only if it is by its specifier, in every later root
 pub later_visited : {root later : RootView} → IsDistinct bytes_eq root.stored → (visited : List UniqueSymbolId) (symbol : UniqueSymbolId)
-    → AreSymbolsStored root visited → symbol.module_id.0 < length root.stored → HasGrown root later
+    → AreModulesOfSymbolsStored root visited → symbol.module_id.0 < length root.stored → HasGrown root later
     → list_any (is_symbol symbol) visited ≡ is_visited (symbols_of_unique_ids later visited) (symbol_of_unique_id later symbol)
 later_visited {later = later} once visited symbol numbered within grown = visited_by_name later (grown.has_no_duplicates once) visited symbol
     (still_numbered grown visited numbered) (stored_id_remains_stored grown symbol.module_id.0 within)

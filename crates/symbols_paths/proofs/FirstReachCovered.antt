@@ -4,7 +4,7 @@ use Rattle.std.specs.Prelude.{Contains, slice_get}
 use Rattle.std.proofs.lemmas.List.Elements.{Contains-append_left, Contains-append_right}
 use Rattle.std.proofs.lemmas.Option.{same_Some}
 use Rattle.symbols_paths.specs.PathTrees.{SymbolBySpecifier, DeclBySpecifier, UnresolvedEntry, LinkHead, PathForest, PathLeaf, definition}
-use Rattle.symbols_paths.specs.PathTrees.{unresolved, no_trees, joined_forests, link_unless_empty, leaves_of_forest}
+use Rattle.symbols_paths.specs.PathTrees.{unresolved, no_trees, joined_forests, forest_below_link_unless_empty, leaves_of_forest}
 use Rattle.symbols_paths.specs.DeclTargets.{DeclTargetView, IsTargetOfNthDecl}
 use Rattle.symbols_paths.specs.PartTargets.{SearchTargets}
 use Rattle.symbols_paths.specs.Derived.{definition_of_decl, link_head_of_forward}
@@ -54,7 +54,7 @@ both {routes = routes} {a = a} {b = b} {c = c} f g x y =
     go u m n false e i decl_target st = widen (y.done u e n i decl_target st) (in_right f g) (λ v h. h)
 
 linked : {routes : SearchTargets} {a b : List SymbolBySpecifier} (head : LinkHead) (f : PathForest) → IsCovering routes a f b
-    → IsCovering routes a (link_unless_empty head f) b
+    → IsCovering routes a (forest_below_link_unless_empty head f) b
 linked head f x = record {
   retained = x.retained;
   done = λ u m n j decl_target st. widen (x.done u m n j decl_target st) (λ y h. rw (leaves_of_forest-link_unless_empty head f) h) (λ v h. h);

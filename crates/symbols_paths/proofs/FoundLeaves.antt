@@ -2,7 +2,7 @@
 use Rattle.std.proofs.Common.{◌≡◌, ℕ, Bool, true, false, List, [], ◌∷◌, refl, sym, ◌∙◌, ap, true≢false}
 use Rattle.std.specs.Prelude.{Contains}
 use Rattle.symbols_paths.specs.PathTrees.{SymbolBySpecifier, QualifiedNameParts, DefinitionView, LinkHead, PathForest, PathLeaf, definition, joined_forests}
-use Rattle.symbols_paths.specs.PathTrees.{link_unless_empty, leaves_of_forest}
+use Rattle.symbols_paths.specs.PathTrees.{forest_below_link_unless_empty, leaves_of_forest}
 use Rattle.symbols_paths.specs.DeclTargets.{DeclTargetView, alias, IsTargetOfNthDecl}
 use Rattle.symbols_paths.specs.PartTargets.{part_is_symbol, SearchTargets}
 use Rattle.symbols_paths.specs.FirstReach.{HasSymbolAsFirstCandidate, IsLeafWithPartsResolved}
@@ -44,7 +44,7 @@ module _ (routes : SearchTargets) where
       go u m n true e i decl_target st = widen_named (x.done u m e i decl_target st) (in_left f g) y.retained
       go u m n false e i decl_target st = widen_named (y.done u e n i decl_target st) (in_right f g) (λ v h. h)
 
-  pub naming_link : {a b : List SymbolBySpecifier} (head : LinkHead) (f : PathForest) → AreNaming a f b → AreNaming a (link_unless_empty head f) b
+  pub naming_link : {a b : List SymbolBySpecifier} (head : LinkHead) (f : PathForest) → AreNaming a f b → AreNaming a (forest_below_link_unless_empty head f) b
   naming_link head f x = record {
     retained = x.retained;
     done = λ u m n j decl_target st. widen_named (x.done u m n j decl_target st) (λ y h. rw (leaves_of_forest-link_unless_empty head f) h) (λ v h. h);
@@ -108,7 +108,8 @@ module _ (routes : SearchTargets) where
         go u m n true e = widen (x.done u m e) (in_left f g) y.retained
         go u m n false e = widen (y.done u e n) (in_right f g) (λ v h. h)
 
-    pub under_linked : {a b : List SymbolBySpecifier} (head : LinkHead) (f : PathForest) → CoversUnder a f b → CoversUnder a (link_unless_empty head f) b
+    pub under_linked : {a b : List SymbolBySpecifier} (head : LinkHead) (f : PathForest) → CoversUnder a f b
+        → CoversUnder a (forest_below_link_unless_empty head f) b
     under_linked head f x =
         record { retained = x.retained; done = λ u m n. widen (x.done u m n) (λ y h. rw (leaves_of_forest-link_unless_empty head f) h) (λ v h. h) }
 

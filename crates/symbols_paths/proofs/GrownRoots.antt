@@ -14,14 +14,14 @@ use Rattle.symbols_root.specs.Growing.{HasGrown}
 use Rattle.symbols_root.specs.laws.Growing.{stored_id_remains_stored}
 use Rattle.symbols_paths.specs.PartTargets.{search_targets_of, search_targets_of_root}
 use Rattle.symbols_paths.specs.Views.{AreModulesStored}
-use Rattle.symbols_paths.specs.inner.SearchSteps.{AreSymbolsStored}
+use Rattle.symbols_paths.specs.inner.SearchSteps.{AreModulesOfSymbolsStored}
 
 -- a root that stores more searches by the same routes
 pub same_links : {root more : RootView} → HasGrown root more → search_targets_of_root more ≡ search_targets_of_root root
 same_links grown = λ i. search_targets_of (grown.rules i) (grown.graph i)
 
-pub still_numbered : {root more : RootView} → HasGrown root more → (visited : List UniqueSymbolId) → AreSymbolsStored root visited
-    → AreSymbolsStored more visited
+pub still_numbered : {root more : RootView} → HasGrown root more → (visited : List UniqueSymbolId) → AreModulesOfSymbolsStored root visited
+    → AreModulesOfSymbolsStored more visited
 still_numbered grown visited numbered = λ k d within. stored_id_remains_stored grown (get_or visited k d).module_id.0 (numbered k d within)
 
 pub all_still_stored : {root more : RootView} → HasGrown root more → (ids : List ModuleId) → AreModulesStored root ids → AreModulesStored more ids

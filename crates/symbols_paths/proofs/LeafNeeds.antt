@@ -15,8 +15,8 @@ use Rattle.symbols_exports.specs.OneName.{find_export}
 use Rattle.symbols_exports.specs.StarStatements.{resolve_specifier}
 use Rattle.symbols_paths.specs.PathTrees.{SymbolBySpecifier, DeclBySpecifier, QualifiedNameParts, DefinitionView, UnresolvedEntry, no_part}
 use Rattle.symbols_paths.specs.DeclTargets.{ForwardTarget, DeclTargetView, defines, forwards, alias, IsTargetOfNthDecl, symbol_of_id}
-use Rattle.symbols_paths.specs.DeclTargets.{forward_within_module}
-use Rattle.symbols_paths.specs.DeclTargets.{alias_target, forward_of_import, declarations_of, target_of_decl, decl_targets_of}
+use Rattle.symbols_paths.specs.DeclTargets.{forward_target_within_module}
+use Rattle.symbols_paths.specs.DeclTargets.{alias_target, forward_target_of_import, declarations_of, target_of_decl, decl_targets_of}
 use Rattle.symbols_paths.specs.PartTargets.{part_is_symbol, itself, part_is_unresolved, export_of_symbol, exported_part_target, module_part_target}
 use Rattle.symbols_paths.specs.PartTargets.{import_part_target}
 use Rattle.symbols_paths.specs.PartTargets.{definition_part_target, part_target_of, is_class_decl_at, prototype_name}
@@ -100,8 +100,8 @@ star_kind rules graph s r range star (file_ref all_names specifier_text) e = λ 
     (same_star r range (Some (record { name = all_names; specifier = specifier_text })) star e ∙ is) in
     ap (λ (d : FileDepView). file_ref all_names d.specifier) same
 star_kind rules graph s r range star (file_ref (one_name name) specifier_text) e =
-    absurd (no_definition (forward_of_import rules graph s name specifier_text (resolve_specifier graph s.specifier specifier_text)) range star e)
-star_kind rules graph s r range star (target id) e = absurd (no_definition (forward_within_module s (symbol_of_id graph s.specifier id)) range star e)
+    absurd (no_definition (forward_target_of_import rules graph s name specifier_text (resolve_specifier graph s.specifier specifier_text)) range star e)
+star_kind rules graph s r range star (target id) e = absurd (no_definition (forward_target_within_module s (symbol_of_id graph s.specifier id)) range star e)
 star_kind rules graph s r range star (qualified_target id parts) e = absurd (by (symbol_of_id graph s.specifier id) e)
   where
     by : (t : Option SymbolId) → alias_target s id parts t ≡ defines range star → ⊥

@@ -3,12 +3,11 @@ use Rattle.std.proofs.Common.{◌≡◌, ℕ, zero, suc, ◌+◌, inl, inr, List
 use Rattle.std.specs.Prelude.{Contains, slice_get}
 use Rattle.std.proofs.lemmas.List.Elements.{Contains-append_left, Contains-append_right, Contains-append_cases}
 use Rattle.symbols_paths.specs.PathTrees.{SymbolBySpecifier, DeclBySpecifier, QualifiedNameParts, DefinitionView, UnresolvedEntry, LinkHead, PathTree}
-use Rattle.symbols_paths.specs.PathTrees.{PathForest, PathLeaf, definition}
-use Rattle.symbols_paths.specs.PathTrees.{unresolved, leaf, no_trees, more_trees, forest_of_tree, joined_forests, link_unless_empty, leaves_of_tree}
-use Rattle.symbols_paths.specs.PathTrees.{leaves_of_forest}
+use Rattle.symbols_paths.specs.PathTrees.{PathForest, PathLeaf, definition, unresolved, leaf, no_trees, more_trees, forest_of_tree, joined_forests}
+use Rattle.symbols_paths.specs.PathTrees.{forest_below_link_unless_empty, leaves_of_tree, leaves_of_forest}
 use Rattle.symbols_paths.specs.DeclTargets.{ForwardTarget, DeclTargetView, defines, forwards, IsTargetOfNthDecl}
 use Rattle.symbols_paths.specs.PartTargets.{part_is_symbol, itself, part_is_unresolved, SearchTargets}
-use Rattle.symbols_paths.specs.Derived.{definition_of_decl, link_head_of_forward, alias_link_head, part_link_head, link_head_with_parts}
+use Rattle.symbols_paths.specs.Derived.{definition_of_decl, link_head_of_forward, alias_link_head, part_link_head, link_head_with_parts_replaced}
 use Rattle.symbols_paths.specs.FirstReach.{IsLeafOfSymbol, IsLeafWithParts, IsLeafWithPartsResolved, unresolved_leaf_stays, definition_stays_itself}
 use Rattle.symbols_paths.specs.FirstReach.{leaf_lacks_part}
 use Rattle.symbols_paths.specs.FirstReach as reach
@@ -47,7 +46,7 @@ pub leaves_of_forest-join : (f g : PathForest) → leaves_of_forest (joined_fore
 leaves_of_forest-join no_trees g = refl
 leaves_of_forest-join (more_trees t f) g = rw (leaves_of_forest-join f g, append_assoc) refl
 
-pub leaves_of_forest-link_unless_empty : (head : LinkHead) (f : PathForest) → leaves_of_forest (link_unless_empty head f) ≡ leaves_of_forest f
+pub leaves_of_forest-link_unless_empty : (head : LinkHead) (f : PathForest) → leaves_of_forest (forest_below_link_unless_empty head f) ≡ leaves_of_forest f
 leaves_of_forest-link_unless_empty head no_trees = refl
 leaves_of_forest-link_unless_empty head (more_trees t f) = append-nil (leaves_of_forest (more_trees t f))
 
@@ -87,7 +86,7 @@ in_join f g a b = record {
       [ inl p ↦ a.each x p | inr p ↦ b.each x p ];
 }
 
-in_link : {P : PathLeaf → Type 0} (head : LinkHead) (f : PathForest) → AllIn P f → AllIn P (link_unless_empty head f)
+in_link : {P : PathLeaf → Type 0} (head : LinkHead) (f : PathForest) → AllIn P f → AllIn P (forest_below_link_unless_empty head f)
 in_link head f a = record { each = λ x h. a.each x (rw (leaves_of_forest-link_unless_empty head f) at h) }
 
 in_one : {P : PathLeaf → Type 0} (x : PathLeaf) → P x → AllIn P (forest_of_tree (leaf x))
@@ -164,7 +163,8 @@ module _ (routes : SearchTargets) (limit : ℕ) where
     change_leaf s a (unresolved_leaf_is_unchanged {m = m}) = in_one (unresolved m)
         (reach.unresolved_leaf_stays m (a.each (unresolved m) (0, omega arith, refl)))
     change_leaf s a (link_gets_resolved_forest {p = p} {ps = ps} {head = head} {f = f} {g = g} x) =
-        in_link (link_head_with_parts head (p ∷ ps)) g (changes_leaf s (record { each = λ y h. a.each y (Contains-append_left (leaves_of_forest f) [] y h) }) x)
+        in_link (link_head_with_parts_replaced head (p ∷ ps)) g (changes_leaf s
+        (record { each = λ y h. a.each y (Contains-append_left (leaves_of_forest f) [] y h) }) x)
     change_leaf s a (definition_has_part {p = p} {ps = ps} {x = d} {t = t} {f = f} e x) =
         in_link (part_link_head d (p ∷ ps)) f (onward (λ y h. reach.via_next_symbol d t (a.each (definition d) (0, omega arith, refl)) e h) (walks_leaf x))
     change_leaf s a (definition_is_part_itself {x = d} e) = in_one (definition d)
@@ -221,7 +221,7 @@ module _ (routes : SearchTargets) (limit : ℕ) where
         → Contains (leaves_of_forest g) y
     change_gives (unresolved_leaf_is_unchanged {m = m}) x y h is = given_unresolved (at_leaf (unresolved m) x y h is)
     change_gives (link_gets_resolved_forest {p = p} {ps = ps} {head = head} {g = g} a) x y h is =
-        rw (leaves_of_forest-link_unless_empty (link_head_with_parts head (p ∷ ps)) g) (changes_gives a x y h is)
+        rw (leaves_of_forest-link_unless_empty (link_head_with_parts_replaced head (p ∷ ps)) g) (changes_gives a x y h is)
     change_gives (definition_has_part {x = d} e a) x y h is = absurd (given_walk e (at_leaf (definition d) x y h is))
     change_gives (definition_is_part_itself {x = d} e) x y h is = given_itself e (at_leaf (definition d) x y h is)
     change_gives (definition_has_no_part {x = d} e) x y h is = given_lack e (at_leaf (definition d) x y h is)

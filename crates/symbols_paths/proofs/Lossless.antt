@@ -10,7 +10,7 @@ use Rattle.symbols_paths.specs.PathTrees.{definition, unresolved, no_trees, join
 use Rattle.symbols_paths.specs.DeclTargets.{ForwardTarget, DeclTargetView, forwards, alias, IsTargetOfNthDecl}
 use Rattle.symbols_paths.specs.PartTargets.{part_is_symbol, SearchTargets}
 use Rattle.symbols_paths.specs.Derived.{decl_of_symbol_at_index, definition_of_decl, link_head_of_forward, alias_link_head, part_link_head}
-use Rattle.symbols_paths.specs.Derived.{link_head_with_parts}
+use Rattle.symbols_paths.specs.Derived.{link_head_with_parts_replaced}
 use Rattle.symbols_paths.specs.FirstReach.{IsLeafWithPartsResolved}
 use Rattle.symbols_paths.specs.AliasSearches.{IsLeafByFirstCandidatesWithParts, IsReachedWithParts, IsMainOrAliasSearchOfQuery, HasNoAliasCycle}
 use Rattle.symbols_paths.specs.AliasSearches.{HasUniqueRemainingPartsInEachSearch}
@@ -239,7 +239,7 @@ module _ (routes : SearchTargets) (limit : ℕ) (queried : SymbolBySpecifier) (q
     change_cover {start = start} {parts = parts} w r (unresolved_leaf_is_unchanged {visited = visited} {m = m}) =
         (under_still routes start parts visited _, record { visited_now = λ d t h e. absurd (not_missing m d h) })
     change_cover {start = start} {parts = parts} w r (link_gets_resolved_forest {p = p} {ps = ps} {head = head} {g = g} x) = let a = changes_cover w r x in
-        (under_linked routes start parts (link_head_with_parts head (p ∷ ps)) g a.0, a.1)
+        (under_linked routes start parts (link_head_with_parts_replaced head (p ∷ ps)) g a.0, a.1)
     change_cover {start = start} {parts = parts} w r (definition_has_part {after = after} {p = p} {ps = ps} {x = y} {t = v} {f = f} e x) =
         let a = walks_cover w (r y v (0, omega arith, refl) e) x in (
           under_linked routes start parts (part_link_head y (p ∷ ps)) f a.0,

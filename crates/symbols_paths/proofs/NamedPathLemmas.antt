@@ -16,7 +16,7 @@ use Rattle.symbols_paths.specs.declared.definition_path.DefinitionPathNode.TheVa
 use Rattle.symbols_paths.specs.declared.definition_path.DefinitionPathNodeResolved.TheVariants as resolved
 use Rattle.symbols_paths.specs.declared.definition_path.DefinitionPathLink.{DefinitionPathLink, DefinitionPathLink-F}
 use Rattle.symbols_paths.specs.declared.definition_path.DefinitionPathNodeResolved.{DefinitionPathNodeResolved}
-use Rattle.symbols_paths.specs.PathTrees.{PathTree, LinkHead, link, forest_of_tree, link_unless_empty}
+use Rattle.symbols_paths.specs.PathTrees.{PathTree, LinkHead, link, forest_of_tree, forest_below_link_unless_empty}
 use Rattle.symbols_paths.specs.Views.{symbol_by_specifier, decl_by_specifier, strings_view, fold_node_to_tree, fold_resolved_to_tree, fold_link_to_tree}
 use Rattle.symbols_paths.specs.Views.{path_by_specifier}
 use Rattle.symbols_paths.specs.Views.{paths_by_specifier, fold_node_to_modules, fold_resolved_to_modules, fold_link_to_modules, modules_of_path}
@@ -64,7 +64,7 @@ modules_of_step id s decl parts next =
     ∙ fold-roll-DefinitionPathLink Ids Ids Ids fold_node_to_modules fold_resolved_to_modules fold_link_to_modules l)))
 
 pub link_of_some : (head : LinkHead) (root : RootView) (paths : List DefinitionPathNode) → (length paths ≡ 0 → ⊥)
-    → link_unless_empty head (paths_by_specifier root paths) ≡ forest_of_tree (link head (paths_by_specifier root paths))
+    → forest_below_link_unless_empty head (paths_by_specifier root paths) ≡ forest_of_tree (link head (paths_by_specifier root paths))
 link_of_some head root [] some = absurd (some refl)
 link_of_some head root (path ∷ paths) some = refl
 

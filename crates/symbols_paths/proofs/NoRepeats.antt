@@ -4,8 +4,8 @@ use Rattle.std.proofs.Common.{◌++◌, Option, None, Some, refl, sym, ◌∙◌
 use Rattle.std.specs.Prelude.{Contains}
 use Rattle.std.proofs.lemmas.List.Elements.{Contains-append_cases}
 use Rattle.symbols_paths.specs.PathTrees.{SymbolBySpecifier, DeclBySpecifier, QualifiedNameParts, DefinitionView, UnresolvedEntry, LinkHead, PathForest}
-use Rattle.symbols_paths.specs.PathTrees.{PathLeaf}
-use Rattle.symbols_paths.specs.PathTrees.{definition, unresolved, no_trees, joined_forests, link_unless_empty, leaves_of_forest, HasDistinctDefinitions}
+use Rattle.symbols_paths.specs.PathTrees.{PathLeaf, definition, unresolved, no_trees, joined_forests, forest_below_link_unless_empty, leaves_of_forest}
+use Rattle.symbols_paths.specs.PathTrees.{HasDistinctDefinitions}
 use Rattle.symbols_paths.specs.DeclTargets.{ForwardTarget, DeclTargetView, forwards, IsTargetOfNthDecl}
 use Rattle.symbols_paths.specs.PartTargets.{SearchTargets}
 use Rattle.symbols_paths.specs.AliasSearches.{IsReachedWithParts, at_search_start, via_candidate, ReachesNoAlias}
@@ -57,7 +57,7 @@ left_over visited None = record { all = λ y h. absurd (none_in (definition y) h
 left_over visited (Some m) = record { all = λ y h. absurd (not_missing m y h); retained = λ u h. h; has_no_duplicates = tt }
 
 linked : {visited after : List SymbolBySpecifier} (head : LinkHead) (s : SymbolBySpecifier) (i : ℕ) (f : PathForest) → AreFresh visited f after
-    → AreOf visited s i (link_unless_empty head f) after
+    → AreOf visited s i (forest_below_link_unless_empty head f) after
 linked head s i f x = record {
   all = λ y h. inr (x.all y (rw (leaves_of_forest-link_unless_empty head f) at h));
   retained = x.retained;

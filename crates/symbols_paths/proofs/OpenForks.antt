@@ -10,7 +10,7 @@ use Rattle.symbols_paths.specs.declared.path_builder.PathBuilder.{PathBuilder}
 use Rattle.symbols_paths.specs.declared.path_builder.PathBuilder.TheVariants as builder
 use Rattle.symbols_paths.specs.PathTrees.{PathForest, joined_forests}
 use Rattle.symbols_paths.specs.Views.{paths_by_specifier, modules_of_paths, AreModulesStored}
-use Rattle.symbols_paths.specs.inner.PathBuilders.{link_heads_of_segments, forest_below_links, built_path, built_paths}
+use Rattle.symbols_paths.specs.inner.PathBuilders.{reversed_link_heads_of_segments, forest_below_reversed_links, built_path, built_paths}
 use Rattle.symbols_paths.specs.inner.PathBuilders.{modules_of_segments, modules_of_builder, modules_of_builders}
 use Rattle.symbols_paths.proofs.LoopInvariants.{join_none, join_assoc}
 use Rattle.symbols_paths.proofs.NamedPathLemmas.{stored_both}
@@ -24,7 +24,7 @@ use Rattle.symbols_paths.proofs.DropBuilders.{weight_of_builder, all_branches, f
 abbrev pub closed_forks : RootView → List OpenFork → PathForest → PathForest
 closed_forks root [] f = f
 closed_forks root (fork ∷ forks) f = closed_forks root forks (joined_forests (paths_by_specifier root fork.before.items)
-    (joined_forests (forest_below_links (link_heads_of_segments root fork.segments.items) f) (built_paths root (reverse fork.rest.items))))
+    (joined_forests (forest_below_reversed_links (reversed_link_heads_of_segments root fork.segments.items) f) (built_paths root (reverse fork.rest.items))))
 
 abbrev pub AreForksStored : RootView → List OpenFork → Type 0
 AreForksStored root [] = Unit {0}
@@ -70,7 +70,7 @@ building_opened {paths = paths} {rest = rest} {all = all} {forks = forks} xs bra
       view = λ root.
           let next = joined_forests (built_paths root branches.items) (built_path root last.value) in
           (λ i. closed_forks root forks (joined_forests (paths_by_specifier root (before_is i))
-          (joined_forests (forest_below_links (link_heads_of_segments root (xs_is i)) (named_with_builder root branches.items last.value i))
+          (joined_forests (forest_below_reversed_links (reversed_link_heads_of_segments root (xs_is i)) (named_with_builder root branches.items last.value i))
           (built_paths root (rest_is i)))))
           ∙ (ap (λ f. closed_forks root forks (joined_forests (paths_by_specifier root paths) (joined_forests f (built_paths root rest))))
           (sym (named_fork root xs branches last)) ∙ is.view root);
@@ -101,7 +101,8 @@ building_opened {paths = paths} {rest = rest} {all = all} {forks = forks} xs bra
 -- the innermost fork is closed
 pub building_closed : {paths : List DefinitionPathNode} {rest all : List PathBuilder} {forks : List OpenFork} (fork : OpenFork) (more : List DefinitionPathNode)
     → AreBuilding paths rest (fork ∷ forks) all → rest ≡ []
-    → ((root : RootView) → paths_by_specifier root more ≡ forest_below_links (link_heads_of_segments root fork.segments.items) (paths_by_specifier root paths))
+    → ((root : RootView) → paths_by_specifier root more ≡ forest_below_reversed_links (reversed_link_heads_of_segments root fork.segments.items)
+    (paths_by_specifier root paths))
     → ((root : RootView) → AreModulesStored root (modules_of_segments fork.segments.items) → AreModulesStored root (modules_of_paths paths)
     → AreModulesStored root (modules_of_paths more))
     → AreBuilding (fork.before.items ++ more) (reverse fork.rest.items) forks all
@@ -109,12 +110,12 @@ building_closed {paths = paths} {rest = rest} {forks = forks} fork more is over 
   view = λ root.
       let before = paths_by_specifier root fork.before.items in
       let after = built_paths root (reverse fork.rest.items) in
-      let heads = link_heads_of_segments root fork.segments.items in
+      let heads = reversed_link_heads_of_segments root fork.segments.items in
       ap (closed_forks root forks)
       (ap (λ f. joined_forests f after) (forest_on root fork.before.items more)
       ∙ (join_assoc before (paths_by_specifier root more) after
       ∙ ap (λ f. joined_forests before (joined_forests f after))
-      (view root ∙ ap (forest_below_links heads) (sym (join_none (paths_by_specifier root paths))
+      (view root ∙ ap (forest_below_reversed_links heads) (sym (join_none (paths_by_specifier root paths))
       ∙ ap (λ ys. joined_forests (paths_by_specifier root paths) (built_paths root ys)) (sym over)))))
       ∙ is.view root;
   stored = λ root a.
@@ -168,7 +169,8 @@ building_fork {paths = paths} {all = all} rest new next forks more xs branches l
 pub building_close : {paths now : List DefinitionPathNode} {all : List PathBuilder} (rest : List PathBuilder) (forks new : List OpenFork) (fork : OpenFork)
     (more : List DefinitionPathNode) → rest ≡ [] → forks ≡ new ++ fork ∷ [] → now ≡ fork.before.items ++ more
     → AreBuilding paths (reverse rest) (reverse forks) all
-    → ((root : RootView) → paths_by_specifier root more ≡ forest_below_links (link_heads_of_segments root fork.segments.items) (paths_by_specifier root paths))
+    → ((root : RootView) → paths_by_specifier root more ≡ forest_below_reversed_links (reversed_link_heads_of_segments root fork.segments.items)
+    (paths_by_specifier root paths))
     → ((root : RootView) → AreModulesStored root (modules_of_segments fork.segments.items) → AreModulesStored root (modules_of_paths paths)
     → AreModulesStored root (modules_of_paths more))
     → AreBuilding now (reverse fork.rest.items) (reverse new) all

@@ -9,9 +9,10 @@ use Rattle.symbols_paths.specs.declared.path_builder.PathBuilder.{PathBuilder}
 use Rattle.symbols_paths.specs.declared.path_builder.PathBuilder.TheVariants as builder
 use Rattle.symbols_paths.specs.PathTrees.{QualifiedNameParts, PathForest, no_trees, joined_forests}
 use Rattle.symbols_paths.specs.Views.{AreModulesStored}
-use Rattle.symbols_paths.specs.inner.ReplacedDefinitions.{rebuilt}
-use Rattle.symbols_paths.specs.inner.PathBuilders.{link_heads_of_segments, link_heads_with_parts, forest_below_links, built_path, built_paths}
-use Rattle.symbols_paths.specs.inner.PathBuilders.{built_paths_of_option, modules_of_segments, modules_of_builder, modules_of_builders, builders_among}
+use Rattle.symbols_paths.specs.inner.ReplacedDefinitions.{forest_with_definitions_replaced}
+use Rattle.symbols_paths.specs.inner.PathBuilders.{reversed_link_heads_of_segments, link_heads_with_parts_replaced, forest_below_reversed_links, built_path}
+use Rattle.symbols_paths.specs.inner.PathBuilders.{built_paths, built_paths_of_option, modules_of_segments, modules_of_builder, modules_of_builders}
+use Rattle.symbols_paths.specs.inner.PathBuilders.{builders_among}
 use Rattle.symbols_paths.proofs.LoopInvariants.{join_none, join_assoc}
 use Rattle.symbols_paths.proofs.NamedPathLemmas.{stored_both}
 use Rattle.symbols_paths.proofs.BuilderLemmas.{modules_fork, named_with_builder, named_with_option, stored_apart, none_stored, stored_one}
@@ -27,13 +28,14 @@ Replaced = PathForest × List PathForest
 
 -- the paths after these, with their definitions replaced
 abbrev pub followed : QualifiedNameParts → PathForest → Replaced → PathForest → Replaced
-followed ps before r after = let q = rebuilt ps after r.1 in (joined_forests before (joined_forests r.0 q.0), q.1)
+followed ps before r after = let q = forest_with_definitions_replaced ps after r.1 in (joined_forests before (joined_forests r.0 q.0), q.1)
 
 -- the paths, if the forks are closed one after another above the paths at hand
 abbrev pub closed_forks : RootView → QualifiedNameParts → List OpenFork → Replaced → Replaced
 closed_forks root ps [] r = r
 closed_forks root ps (fork ∷ forks) r = closed_forks root ps forks (followed ps (built_paths root fork.before.items)
-    (forest_below_links (link_heads_with_parts ps (link_heads_of_segments root fork.segments.items)) r.0, r.1) (built_paths root (reverse fork.rest.items)))
+    (forest_below_reversed_links (link_heads_with_parts_replaced ps (reversed_link_heads_of_segments root fork.segments.items)) r.0, r.1)
+    (built_paths root (reverse fork.rest.items)))
 
 abbrev pub AreForksStored : RootView → List OpenFork → Type 0
 AreForksStored root [] = Unit {0}
@@ -46,7 +48,7 @@ pub record AreReplacing (ps : QualifiedNameParts) (found rest : List PathBuilder
     (all : List PathBuilder) (at_search_start : List (Option PathBuilder)) : Type 0 where
   pub view : (root : RootView) → closed_forks root ps forks
       (followed ps (built_paths root found) (no_trees, map (built_paths_of_option root) ready) (built_paths root rest))
-      ≡ rebuilt ps (built_paths root all) (map (built_paths_of_option root) at_search_start)
+      ≡ forest_with_definitions_replaced ps (built_paths root all) (map (built_paths_of_option root) at_search_start)
   pub stored : (root : RootView) → AreModulesStored root (modules_of_builders all) → AreModulesStored root
       (modules_of_builders (builders_among at_search_start))
       → AreModulesStored root (modules_of_builders found)
@@ -60,8 +62,10 @@ replacing_first ps all at_search_start = record { view = λ root. refl; stored =
 pub replacing_next : {ps : QualifiedNameParts} {found rest all : List PathBuilder} {forks : List OpenFork}
     {ready later at_search_start : List (Option PathBuilder)}
     (x : PathBuilder) (put : Option PathBuilder) → AreReplacing ps found (x ∷ rest) forks ready all at_search_start
-    → ((root : RootView) → built_paths_of_option root put ≡ (rebuilt ps (built_path root x) (map (built_paths_of_option root) ready)).0)
-    → ((root : RootView) → map (built_paths_of_option root) later ≡ (rebuilt ps (built_path root x) (map (built_paths_of_option root) ready)).1)
+    → ((root : RootView) → built_paths_of_option root put ≡ (forest_with_definitions_replaced ps (built_path root x)
+    (map (built_paths_of_option root) ready)).0)
+    → ((root : RootView) → map (built_paths_of_option root) later
+    ≡ (forest_with_definitions_replaced ps (built_path root x) (map (built_paths_of_option root) ready)).1)
     → ((root : RootView) → AreModulesStored root (modules_of_builder x) → AreModulesStored root (modules_of_builders (builders_among ready))
     → AreModulesStored root (modules_of_builders (option_to_list put)) × AreModulesStored root (modules_of_builders (builders_among later)))
     → AreReplacing ps (found ++ option_to_list put) rest forks later all at_search_start
@@ -70,10 +74,13 @@ replacing_next {ps = ps} {found = found} {rest = rest} {forks = forks} {ready = 
       let before = built_paths root found in
       let after = built_paths root rest in
       let gs = map (built_paths_of_option root) ready in
-      let r = rebuilt ps (built_path root x) gs in
+      let r = forest_with_definitions_replaced ps (built_path root x) gs in
       ap (closed_forks root ps forks)
-      ((λ i. (joined_forests (named_with_option root found put i) (rebuilt ps after (left_is root i)).0, (rebuilt ps after (left_is root i)).1))
-      ∙ ((λ i. (join_assoc before (put_is root i) (rebuilt ps after r.1).0 i, (rebuilt ps after r.1).1))
+      ((λ i. (
+        joined_forests (named_with_option root found put i) (forest_with_definitions_replaced ps after (left_is root i)).0,
+        (forest_with_definitions_replaced ps after (left_is root i)).1,
+      ))
+      ∙ ((λ i. (join_assoc before (put_is root i) (forest_with_definitions_replaced ps after r.1).0 i, (forest_with_definitions_replaced ps after r.1).1))
       ∙ ap (λ (q : Replaced). (joined_forests before q.0, q.1)) (sym (rebuilt_join ps (built_path root x) after gs))))
       ∙ is.view root;
   stored = λ root a b.
@@ -100,9 +107,9 @@ replacing_opened {ps = ps} {found = found} {rest = rest} {all = all} {forks = fo
           let gs = map (built_paths_of_option root) ready in
           let fork_is = rebuilt_fork root ps xs branches last gs in
           (λ i. closed_forks root ps forks (followed ps (built_paths root (before_is i)) (
-            forest_below_links (link_heads_with_parts ps (link_heads_of_segments root (xs_is i)))
-                (rebuilt ps (named_with_builder root branches.items last.value i) gs).0,
-            (rebuilt ps (named_with_builder root branches.items last.value i) gs).1,
+            forest_below_reversed_links (link_heads_with_parts_replaced ps (reversed_link_heads_of_segments root (xs_is i)))
+                (forest_with_definitions_replaced ps (named_with_builder root branches.items last.value i) gs).0,
+            (forest_with_definitions_replaced ps (named_with_builder root branches.items last.value i) gs).1,
           )
           (built_paths root (rest_is i))))
           ∙ (ap (λ (r : Replaced). closed_forks root ps forks (followed ps before r after)) (sym fork_is)
@@ -140,7 +147,7 @@ replacing_opened {ps = ps} {found = found} {rest = rest} {all = all} {forks = fo
 pub replacing_closed : {ps : QualifiedNameParts} {found rest all : List PathBuilder} {forks : List OpenFork} {ready at_search_start : List (Option PathBuilder)}
     (fork : OpenFork) (put : Option PathBuilder) → AreReplacing ps found rest (fork ∷ forks) ready all at_search_start → rest ≡ []
     → ((root : RootView) → built_paths_of_option root put
-    ≡ forest_below_links (link_heads_with_parts ps (link_heads_of_segments root fork.segments.items)) (built_paths root found))
+    ≡ forest_below_reversed_links (link_heads_with_parts_replaced ps (reversed_link_heads_of_segments root fork.segments.items)) (built_paths root found))
     → ((root : RootView) → AreModulesStored root (modules_of_segments fork.segments.items) → AreModulesStored root (modules_of_builders found)
     → AreModulesStored root (modules_of_builders (option_to_list put)))
     → AreReplacing ps (fork.before.items ++ option_to_list put) (reverse fork.rest.items) forks ready all at_search_start
@@ -152,12 +159,16 @@ replacing_closed {ps = ps} {found = found} {rest = rest} {all = all} {forks = fo
           let before = built_paths root fork.before.items in
           let after = built_paths root (reverse fork.rest.items) in
           let gs = map (built_paths_of_option root) ready in
-          let heads = link_heads_with_parts ps (link_heads_of_segments root fork.segments.items) in
-          ap (λ f. closed_forks root ps forks (joined_forests f (rebuilt ps after gs).0, (rebuilt ps after gs).1)) (named_with_option root fork.before.items put)
+          let heads = link_heads_with_parts_replaced ps (reversed_link_heads_of_segments root fork.segments.items) in
+          ap (λ f. closed_forks root ps forks (
+            joined_forests f (forest_with_definitions_replaced ps after gs).0,
+            (forest_with_definitions_replaced ps after gs).1,
+          )) (named_with_option root fork.before.items put)
           ∙ ((λ i. closed_forks root ps forks (
             join_assoc before
-                ((put_is root ∙ ap (forest_below_links heads) (sym (join_none (built_paths root found)))) i) (rebuilt ps after gs).0 i,
-            (rebuilt ps after gs).1,
+                ((put_is root ∙ ap (forest_below_reversed_links heads) (sym (join_none (built_paths root found)))) i)
+                (forest_with_definitions_replaced ps after gs).0 i,
+            (forest_with_definitions_replaced ps after gs).1,
           ))
           ∙ is.view root);
       stored = λ root a b.
@@ -168,7 +179,8 @@ replacing_closed {ps = ps} {found = found} {rest = rest} {all = all} {forks = fo
 
 pub replacing_last : {ps : QualifiedNameParts} {found rest all : List PathBuilder} {forks : List OpenFork} {ready at_search_start : List (Option PathBuilder)}
     → AreReplacing ps found rest forks ready all at_search_start → rest ≡ [] → forks ≡ [] → (root : RootView)
-    → (built_paths root found, map (built_paths_of_option root) ready) ≡ rebuilt ps (built_paths root all) (map (built_paths_of_option root) at_search_start)
+    → (built_paths root found, map (built_paths_of_option root) ready) ≡ forest_with_definitions_replaced ps (built_paths root all)
+    (map (built_paths_of_option root) at_search_start)
 replacing_last {ps = ps} {found = found} {ready = ready} is over closed root =
     (λ i. (sym (join_none (built_paths root found)) i, map (built_paths_of_option root) ready))
     ∙ ((λ i. closed_forks root ps (sym closed i)
@@ -195,8 +207,10 @@ pub replacing_end : {ps : QualifiedNameParts} {found now all : List PathBuilder}
     {ready later at_search_start : List (Option PathBuilder)}
     (rest new : List PathBuilder) (x : PathBuilder) (put : Option PathBuilder) → rest ≡ new ++ x ∷ [] → now ≡ found ++ option_to_list put
     → AreReplacing ps found (reverse rest) forks ready all at_search_start
-    → ((root : RootView) → built_paths_of_option root put ≡ (rebuilt ps (built_path root x) (map (built_paths_of_option root) ready)).0)
-    → ((root : RootView) → map (built_paths_of_option root) later ≡ (rebuilt ps (built_path root x) (map (built_paths_of_option root) ready)).1)
+    → ((root : RootView) → built_paths_of_option root put ≡ (forest_with_definitions_replaced ps (built_path root x)
+    (map (built_paths_of_option root) ready)).0)
+    → ((root : RootView) → map (built_paths_of_option root) later
+    ≡ (forest_with_definitions_replaced ps (built_path root x) (map (built_paths_of_option root) ready)).1)
     → ((root : RootView) → AreModulesStored root (modules_of_builder x) → AreModulesStored root (modules_of_builders (builders_among ready))
     → AreModulesStored root (modules_of_builders (option_to_list put)) × AreModulesStored root (modules_of_builders (builders_among later)))
     → AreReplacing ps now (reverse new) forks later all at_search_start
@@ -223,7 +237,7 @@ pub replacing_close : {ps : QualifiedNameParts} {found now all : List PathBuilde
     (forks new : List OpenFork) (fork : OpenFork) (put : Option PathBuilder) → rest ≡ [] → forks ≡ new ++ fork ∷ [] → now ≡ fork.before.items ++ option_to_list put
     → AreReplacing ps found (reverse rest) (reverse forks) ready all at_search_start
     → ((root : RootView) → built_paths_of_option root put
-    ≡ forest_below_links (link_heads_with_parts ps (link_heads_of_segments root fork.segments.items)) (built_paths root found))
+    ≡ forest_below_reversed_links (link_heads_with_parts_replaced ps (reversed_link_heads_of_segments root fork.segments.items)) (built_paths root found))
     → ((root : RootView) → AreModulesStored root (modules_of_segments fork.segments.items) → AreModulesStored root (modules_of_builders found)
     → AreModulesStored root (modules_of_builders (option_to_list put)))
     → AreReplacing ps now (reverse fork.rest.items) (reverse new) ready all at_search_start

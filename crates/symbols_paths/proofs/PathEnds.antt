@@ -16,11 +16,12 @@ use Rattle.symbols_paths.specs.declared.definition_path.DefinitionPathNodeResolv
 use Rattle.symbols_paths.specs.declared.path_builder.Segment.{Segment}
 use Rattle.symbols_paths.specs.declared.path_builder.PathBuilder.{PathBuilder}
 use Rattle.symbols_paths.specs.declared.path_builder.PathBuilder.TheVariants as builder
-use Rattle.symbols_paths.specs.PathTrees.{LinkHead, PathTree, PathForest, leaf, forest_of_tree, joined_forests, link_unless_empty}
+use Rattle.symbols_paths.specs.PathTrees.{LinkHead, PathTree, PathForest, leaf, forest_of_tree, joined_forests, forest_below_link_unless_empty}
 use Rattle.symbols_paths.specs.PathTrees.{PathLeaf, definition, unresolved, leaves_of_tree, leaves_of_forest, definitions_among}
 use Rattle.symbols_paths.specs.Views.{fold_node_to_tree, fold_resolved_to_tree, fold_link_to_tree, path_by_specifier, paths_by_specifier, path_leaf_of_end}
 use Rattle.symbols_paths.specs.Views.{definition_by_specifier, module_of_definition, module_of_end, AreModulesStored}
-use Rattle.symbols_paths.specs.inner.PathBuilders.{link_heads_of_segments, forest_below_links, built_path, built_paths, modules_of_builder, modules_of_builders}
+use Rattle.symbols_paths.specs.inner.PathBuilders.{reversed_link_heads_of_segments, forest_below_reversed_links, built_path, built_paths, modules_of_builder}
+use Rattle.symbols_paths.specs.inner.PathBuilders.{modules_of_builders}
 use Rattle.symbols_paths.proofs.Leaves.{leaves_of_forest-join, leaves_of_forest-link_unless_empty}
 use Rattle.symbols_paths.proofs.NamedPathLemmas.{stored_both}
 use Rattle.symbols_paths.proofs.BuilderLemmas.{named_to, named_fork, stored_apart, none_stored}
@@ -63,21 +64,21 @@ ends_last left at_search_start rest paths over so root =
 
 -- ---- the ends of builders
 
-pub leaves_linked : (heads : List LinkHead) (f : PathForest) → leaves_of_forest (forest_below_links heads f) ≡ leaves_of_forest f
+pub leaves_linked : (heads : List LinkHead) (f : PathForest) → leaves_of_forest (forest_below_reversed_links heads f) ≡ leaves_of_forest f
 leaves_linked [] f = refl
-leaves_linked (head ∷ heads) f = leaves_linked heads (link_unless_empty head f) ∙ leaves_of_forest-link_unless_empty head f
+leaves_linked (head ∷ heads) f = leaves_linked heads (forest_below_link_unless_empty head f) ∙ leaves_of_forest-link_unless_empty head f
 
 pub leaves_to : (root : RootView) (xs : Vec Segment Global) (end : DefinitionOrUnresolved)
     → leaves_of_forest (built_path root (builder.End xs end)) ≡ path_leaf_of_end root end ∷ []
 leaves_to root xs end = ap leaves_of_forest (named_to root xs end)
-    ∙ leaves_linked (link_heads_of_segments root xs.items) (forest_of_tree (leaf (path_leaf_of_end root end)))
+    ∙ leaves_linked (reversed_link_heads_of_segments root xs.items) (forest_of_tree (leaf (path_leaf_of_end root end)))
 
 pub leaves_fork : (root : RootView) (xs : Vec Segment Global) (branches : Vec PathBuilder Global) (last : Box PathBuilder Global)
     → leaves_of_forest (built_path root (builder.Fork xs branches last)) ≡ leaves_of_forest (built_paths root branches.items)
     ++ leaves_of_forest (built_path root last.value)
 leaves_fork root xs branches last =
     ap leaves_of_forest (named_fork root xs branches last)
-    ∙ (leaves_linked (link_heads_of_segments root xs.items) (joined_forests (built_paths root branches.items) (built_path root last.value))
+    ∙ (leaves_linked (reversed_link_heads_of_segments root xs.items) (joined_forests (built_paths root branches.items) (built_path root last.value))
     ∙ leaves_of_forest-join (built_paths root branches.items) (built_path root last.value))
 
 -- the invariant: the ends so far, and `rest` of the builders left

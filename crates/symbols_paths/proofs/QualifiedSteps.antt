@@ -12,7 +12,7 @@ use Rattle.symbols_paths.specs.PartTargets.{part_is_symbol, part_is_unresolved, 
 use Rattle.symbols_paths.specs.Derived.{part_link_head}
 use Rattle.symbols_paths.specs.Views.{symbol_by_specifier, decl_by_specifier, definition_by_specifier, unresolved_entry_view}
 use Rattle.symbols_paths.specs.inner.Views.{first_part, later_parts}
-use Rattle.symbols_paths.specs.inner.SearchSteps.{part_target_view, IsPartStored}
+use Rattle.symbols_paths.specs.inner.SearchSteps.{part_target_view, IsModuleOfPartTargetStored}
 use Rattle.symbols_paths.proofs.NamedPathLemmas.{head_named}
 
 -- ---- parts
@@ -24,7 +24,7 @@ some_parts (x ∷ xs) some = refl
 -- ---- the replacement of a definition
 
 -- the target of a part read in a root is the same in each later root
-pub part_target_later : {root later : RootView} → HasGrown root later → (w : PartTarget) → IsPartStored root w
+pub part_target_later : {root later : RootView} → HasGrown root later → (w : PartTarget) → IsModuleOfPartTargetStored root w
     → part_target_view later w ≡ part_target_view root w
 part_target_later grown (read_part.Symbol s) within =
     (λ i. part_is_symbol (record { specifier = specifier_unchanged_by_growth grown s.module_id within i; number = s.symbol_id }))
@@ -47,7 +47,7 @@ part_later : {old later : RootView} → HasGrown old later → (x : Definition) 
 part_later grown x within p ps = (λ i. part_target_of (grown.graph i) (definition_later grown x within i) p ps)
 
 module _ {old mid : RootView} (x : Definition) (parts : QualifiedNameParts) (within : x.«module».0
-    < length old.stored) (w : PartTarget) (retained : HasGrown old mid) (stored : IsPartStored mid w) (decl_targets : part_target_view mid w
+    < length old.stored) (w : PartTarget) (retained : HasGrown old mid) (stored : IsModuleOfPartTargetStored mid w) (decl_targets : part_target_view mid w
     ≡ part_target_of old.graph (definition_by_specifier old x) (first_part parts) (later_parts parts)) where
   pub part_target_there : (later : RootView) → HasGrown mid later
       → part_target_of later.graph (definition_by_specifier later x) (first_part parts) (later_parts parts) ≡ part_target_view later w

@@ -3,7 +3,7 @@ use Rattle.std.proofs.Common.{◌≡◌, ℕ, suc, inl, inr, Bool, true, false, 
 use Rattle.std.specs.Prelude.{Contains, slice_get}
 use Rattle.std.proofs.lemmas.List.Elements.{Contains-append_cases}
 use Rattle.symbols_paths.specs.PathTrees.{SymbolBySpecifier, DeclBySpecifier, QualifiedNameParts, DefinitionView, UnresolvedEntry, LinkHead, PathForest}
-use Rattle.symbols_paths.specs.PathTrees.{PathLeaf, definition, no_trees, joined_forests, link_unless_empty, leaves_of_forest}
+use Rattle.symbols_paths.specs.PathTrees.{PathLeaf, definition, no_trees, joined_forests, forest_below_link_unless_empty, leaves_of_forest}
 use Rattle.symbols_paths.specs.DeclTargets.{ForwardTarget, DeclTargetView, defines, forwards, alias, IsTargetOfNthDecl}
 use Rattle.symbols_paths.specs.PartTargets.{SearchTargets}
 use Rattle.symbols_paths.specs.Derived.{definition_of_decl, link_head_of_forward, alias_link_head}
@@ -109,7 +109,7 @@ module _ (routes : SearchTargets) (limit : ℕ) (start : SymbolBySpecifier) (par
       go u m n false e = y.visited_now u e n
 
   reached_link : {r : QualifiedNameParts} {a b : List SymbolBySpecifier} (head : LinkHead) (f : PathForest) → AreReached r a f b
-      → AreReached r a (link_unless_empty head f) b
+      → AreReached r a (forest_below_link_unless_empty head f) b
   reached_link head f x = record { leaves = λ y h. x.leaves y (rw (leaves_of_forest-link_unless_empty head f) at h); visited_now = x.visited_now }
 
   mutual

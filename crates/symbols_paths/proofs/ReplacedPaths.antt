@@ -5,8 +5,8 @@ use Rattle.symbols_paths.specs.PathTrees.{leaf, link, no_trees, more_trees}
 use Rattle.symbols_paths.specs.PartTargets.{SearchTargets}
 use Rattle.symbols_paths.specs.Choice.{IsOutcomeOfPartsInForest, no_tree_left, tree_then_forest, IsOutcomeOfPartsInTree, unresolved_leaf_is_unchanged}
 use Rattle.symbols_paths.specs.Choice.{link_gets_resolved_forest}
-use Rattle.symbols_paths.specs.inner.ReplacedDefinitions.{definitions_of_tree, definitions_of_forest, first_forest, forests_after_first, rebuilt_tree, rebuilt}
-use Rattle.symbols_paths.specs.inner.ReplacedDefinitions.{ReplacesInOrder, no_step, a_step}
+use Rattle.symbols_paths.specs.inner.ReplacedDefinitions.{definitions_of_tree, definitions_of_forest, first_forest, forests_after_first}
+use Rattle.symbols_paths.specs.inner.ReplacedDefinitions.{tree_with_definitions_replaced, forest_with_definitions_replaced, ReplacesInOrder, no_step, a_step}
 
 module _ (routes : SearchTargets) (limit : ℕ) (running : List DeclBySpecifier) where
   pub record IsRebuilt (visited : List SymbolBySpecifier) (p : List ℕ) (ps : QualifiedNameParts) (f g : PathForest) (xs : List DefinitionView)
@@ -33,7 +33,7 @@ module _ (routes : SearchTargets) (limit : ℕ) (running : List DeclBySpecifier)
     rebuilt_tree_is : (visited after : List SymbolBySpecifier) (p : List ℕ) (ps : QualifiedNameParts) (t : PathTree) (xs : List DefinitionView)
         (gs : List PathForest)
         → ReplacesInOrder routes limit running visited p ps (definitions_of_tree t ++ xs) gs after
-        → IsRebuiltTree visited p ps t (rebuilt_tree (p ∷ ps) t gs).0 xs (rebuilt_tree (p ∷ ps) t gs).1 after
+        → IsRebuiltTree visited p ps t (tree_with_definitions_replaced (p ∷ ps) t gs).0 xs (tree_with_definitions_replaced (p ∷ ps) t gs).1 after
     rebuilt_tree_is visited after p ps (leaf (definition x)) xs gs st = named_import st
     rebuilt_tree_is visited after p ps (leaf (unresolved m)) xs gs st = record { mid = visited; changes = unresolved_leaf_is_unchanged; left = st }
     rebuilt_tree_is visited after p ps (link head next) xs gs st =
@@ -42,12 +42,12 @@ module _ (routes : SearchTargets) (limit : ℕ) (running : List DeclBySpecifier)
 
     pub rebuilt_is : (visited after : List SymbolBySpecifier) (p : List ℕ) (ps : QualifiedNameParts) (f : PathForest) (xs : List DefinitionView)
         (gs : List PathForest)
-        → ReplacesInOrder routes limit running visited p ps (definitions_of_forest f ++ xs) gs after → IsRebuilt visited p ps f (rebuilt (p ∷ ps) f
-        gs).0 xs (rebuilt (p ∷ ps) f gs).1 after
+        → ReplacesInOrder routes limit running visited p ps (definitions_of_forest f ++ xs) gs after
+        → IsRebuilt visited p ps f (forest_with_definitions_replaced (p ∷ ps) f gs).0 xs (forest_with_definitions_replaced (p ∷ ps) f gs).1 after
     rebuilt_is visited after p ps no_trees xs gs st = record { mid = visited; changes = no_tree_left; left = st }
     rebuilt_is visited after p ps (more_trees t f) xs gs st =
         let h = rebuilt_tree_is visited after p ps t (definitions_of_forest f ++ xs) gs (rw append_assoc at st) in
-        let k = rebuilt_is h.mid after p ps f xs (rebuilt_tree (p ∷ ps) t gs).1 h.left in
+        let k = rebuilt_is h.mid after p ps f xs (tree_with_definitions_replaced (p ∷ ps) t gs).1 h.left in
         record { mid = k.mid; changes = tree_then_forest h.changes k.changes; left = k.left }
 
   pub no_steps_left : {visited after : List SymbolBySpecifier} {p : List ℕ} {ps : QualifiedNameParts} {gs : List PathForest} → ReplacesInOrder routes

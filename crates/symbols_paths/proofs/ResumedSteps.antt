@@ -13,23 +13,24 @@ use Rattle.symbols_paths.specs.declared.search_step.AliasSearch.{AliasSearch}
 use Rattle.symbols_paths.specs.declared.search_step.Frame.{Frame}
 use Rattle.symbols_paths.specs.declared.search_step.Frame.TheVariants as frame
 use Rattle.symbols_paths.specs.declared.search_step.Step.TheVariants.{Expand, TryStar, Found}
-use Rattle.symbols_paths.specs.PathTrees.{SymbolBySpecifier, DeclBySpecifier, UnresolvedEntry, PathForest, no_trees, more_trees, link_unless_empty}
+use Rattle.symbols_paths.specs.PathTrees.{SymbolBySpecifier, DeclBySpecifier, UnresolvedEntry, PathForest, no_trees, more_trees, forest_below_link_unless_empty}
 use Rattle.symbols_paths.specs.PartTargets.{SearchTargets, search_targets_of_root}
 use Rattle.symbols_paths.specs.Derived.{alias_link_head}
 use Rattle.symbols_paths.specs.Views.{AreModulesStored}
 use Rattle.symbols_paths.specs.inner.Views.{symbol_of_unique_id}
 use Rattle.symbols_paths.specs.inner.PathBuilders.{remaining_parts, built_paths, modules_of_builders}
-use Rattle.symbols_paths.specs.inner.SearchSteps.{AreAliasesStored, symbols_of_unique_ids, decls_of_aliases}
-use Rattle.symbols_paths.specs.inner.StillToCome.{Tried, Linking, aliases_with_frames, alias_at, link_head_of, no_export, candidates_left, found_before}
-use Rattle.symbols_paths.specs.inner.StillToCome.{Unwinds}
-use Rattle.symbols_paths.specs.inner.SearchWork.{for_decl}
-use Rattle.symbols_paths.specs.inner.SearchInvariants.{SearchStart, IsSearchValid, IsStep, IsNextDecl}
+use Rattle.symbols_paths.specs.inner.SearchSteps.{AreModulesOfAliasesStored, symbols_of_unique_ids, decls_of_aliases}
+use Rattle.symbols_paths.specs.inner.StillToCome.{HoldsAfterFirstCandidatePaths, HoldsAfterLinkAndLaterDecls, aliases_with_frames, alias_at_current_decl}
+use Rattle.symbols_paths.specs.inner.StillToCome.{link_head_of_current_decl, unresolved_entry_of_missing_export, remaining_star_candidates}
+use Rattle.symbols_paths.specs.inner.StillToCome.{forest_found_before_current_decl, FramesUnwindToResult}
+use Rattle.symbols_paths.specs.inner.SearchWork.{work_of_decl_search}
+use Rattle.symbols_paths.specs.inner.SearchInvariants.{SearchStart, IsSearchOfNeededModules, IsStepWithSameOutcomeAndLessWork, IsExpansionAtNextDecl}
 use Rattle.symbols_paths.proofs.NextDecls.{next_valid, needed_linked}
 use Rattle.symbols_paths.proofs.DeclSteps.{next_on, next_left}
 
 tried_some : (routes : SearchTargets) (go : PathForest → List SymbolBySpecifier → Type 0) (running : List DeclBySpecifier) (cs : List SymbolBySpecifier)
     (otherwise : Option UnresolvedEntry) (f : PathForest) (visited : List SymbolBySpecifier) → (f ≡ no_trees → ⊥) → go f visited
-    → Tried routes go running cs otherwise f visited
+    → HoldsAfterFirstCandidatePaths routes go running cs otherwise f visited
 tried_some routes go running cs otherwise no_trees visited some y = absurd (some refl)
 tried_some routes go running cs otherwise (more_trees t f) visited some y = y
 
@@ -40,10 +41,10 @@ module _ (start : SearchStart) (root : RootView) (running : List AliasDecl) (vis
 
   -- a link
   pub resumed_link : (here : Expansion) (t : UniqueSymbolId) (next : Expansion)
-      → IsSearchValid start root running visited (frame.Link here t ∷ frames) (Found paths)
-      → IsNextDecl here next (λ later. link_unless_empty (link_head_of later here t) (built_paths later paths.items))
+      → IsSearchOfNeededModules start root running visited (frame.Link here t ∷ frames) (Found paths)
+      → IsExpansionAtNextDecl here next (λ later. forest_below_link_unless_empty (link_head_of_current_decl later here t) (built_paths later paths.items))
       → AreModulesStored root (modules_of_builders next.paths.items)
-      → IsStep start root visited (frame.Link here t ∷ frames) (Found paths) root running visited frames (Expand next)
+      → IsStepWithSameOutcomeAndLessWork start root visited (frame.Link here t ∷ frames) (Found paths) root running visited frames (Expand next)
   resumed_link here t next valid is stored =
       let n = length (aliases_with_frames start.running frames) in
       record {
@@ -54,17 +55,17 @@ module _ (start : SearchStart) (root : RootView) (running : List AliasDecl) (vis
           few = valid.few;
           frames_valid = valid.frames_valid.2;
           step_valid = next_valid valid.frames_valid.0.expansion is stored
-              (λ later on. needed_linked (link_head_of later here t) (built_paths later paths.items) (valid.step_valid.needed later on));
+              (λ later on. needed_linked (link_head_of_current_decl later here t) (built_paths later paths.items) (valid.step_valid.needed later on));
         };
-        comes = λ later on F A y. next_on later (Unwinds later start.running F A frames) (aliases_in later) (symbols_of_unique_ids later visited) here next
-            (λ later. link_unless_empty (link_head_of later here t) (built_paths later paths.items)) is y;
-        less = omega (arith, next_left here next _ (for_decl n (length visited)) is);
+        comes = λ later on F A y. next_on later (FramesUnwindToResult later start.running F A frames) (aliases_in later) (symbols_of_unique_ids later visited)
+            here next (λ later. forest_below_link_unless_empty (link_head_of_current_decl later here t) (built_paths later paths.items)) is y;
+        less = omega (arith, next_left here next _ (work_of_decl_search n (length visited)) is);
       }
 
   -- a candidate without paths
-  pub resumed_star_none : (w : Box StarSearch Global) → IsSearchValid start root running visited (frame.Star w ∷ frames) (Found paths)
+  pub resumed_star_none : (w : Box StarSearch Global) → IsSearchOfNeededModules start root running visited (frame.Star w ∷ frames) (Found paths)
       → ((later : RootView) → built_paths later paths.items ≡ no_trees)
-      → IsStep start root visited (frame.Star w ∷ frames) (Found paths) root running visited frames (TryStar w)
+      → IsStepWithSameOutcomeAndLessWork start root visited (frame.Star w ∷ frames) (Found paths) root running visited frames (TryStar w)
   resumed_star_none w valid empty = record {
     valid = record {
       running_so = valid.running_so;
@@ -74,18 +75,19 @@ module _ (start : SearchStart) (root : RootView) (running : List AliasDecl) (vis
       frames_valid = valid.frames_valid.1;
       step_valid = valid.frames_valid.0;
     };
-    comes = λ later on F A y. subst (λ f. Unwinds later start.running F A (frame.Star w ∷ frames) f (symbols_of_unique_ids later visited))
+    comes = λ later on F A y. subst (λ f. FramesUnwindToResult later start.running F A (frame.Star w ∷ frames) f (symbols_of_unique_ids later visited))
         (sym (empty later)) y;
     less = omega arith;
   }
 
   -- a candidate with paths
   pub resumed_star_some : (w : Box StarSearch Global) (next : Expansion)
-      → IsSearchValid start root running visited (frame.Star w ∷ frames) (Found paths)
+      → IsSearchOfNeededModules start root running visited (frame.Star w ∷ frames) (Found paths)
       → ((later : RootView) → built_paths later paths.items ≡ no_trees → ⊥)
-      → IsNextDecl w.value.here next (λ later. link_unless_empty (link_head_of later w.value.here w.value.here.symbol) (built_paths later paths.items))
+      → IsExpansionAtNextDecl w.value.here next (λ later. forest_below_link_unless_empty (link_head_of_current_decl later w.value.here w.value.here.symbol)
+      (built_paths later paths.items))
       → AreModulesStored root (modules_of_builders next.paths.items)
-      → IsStep start root visited (frame.Star w ∷ frames) (Found paths) root running visited frames (Expand next)
+      → IsStepWithSameOutcomeAndLessWork start root visited (frame.Star w ∷ frames) (Found paths) root running visited frames (Expand next)
   resumed_star_some w next valid some is stored =
       let n = length (aliases_with_frames start.running frames) in
       let here = w.value.here in
@@ -97,20 +99,23 @@ module _ (start : SearchStart) (root : RootView) (running : List AliasDecl) (vis
           few = valid.few;
           frames_valid = valid.frames_valid.1;
           step_valid = next_valid valid.frames_valid.0.here.expansion is stored (λ later on.
-              needed_linked (link_head_of later here here.symbol) (built_paths later paths.items) (valid.step_valid.needed later on));
+              needed_linked (link_head_of_current_decl later here here.symbol) (built_paths later paths.items) (valid.step_valid.needed later on));
         };
         comes = λ later on F A y.
-            let go = Unwinds later start.running F A frames in
-            tried_some (search_targets_of_root later) (Linking (search_targets_of_root later) go (aliases_in later)
+            let go = FramesUnwindToResult later start.running F A frames in
+            tried_some (search_targets_of_root later) (HoldsAfterLinkAndLaterDecls (search_targets_of_root later) go (aliases_in later)
             (symbol_of_unique_id later here.symbol) here.index
-            (found_before later here) (link_head_of later here here.symbol)) (aliases_in later) (candidates_left later w.value)
-            (no_export later w.value.module_id w.value.name.now) (built_paths later paths.items) (symbols_of_unique_ids later visited) (some later)
+            (forest_found_before_current_decl later here) (link_head_of_current_decl later here here.symbol)) (aliases_in later)
+            (remaining_star_candidates later w.value)
+            (unresolved_entry_of_missing_export later w.value.module_id w.value.name.now) (built_paths later paths.items) (symbols_of_unique_ids later visited)
+            (some later)
             (next_on later go (aliases_in later) (symbols_of_unique_ids later visited) here next
-            (λ later. link_unless_empty (link_head_of later here here.symbol) (built_paths later paths.items)) is y);
-        less = omega (arith, next_left here next _ (for_decl n (length visited)) is);
+            (λ later. forest_below_link_unless_empty (link_head_of_current_decl later here here.symbol) (built_paths later paths.items)) is y);
+        less = omega (arith, next_left here next _ (work_of_decl_search n (length visited)) is);
       }
 
-aliases_before : (root : RootView) (running : List AliasDecl) (x : AliasDecl) → AreAliasesStored root (running ++ x ∷ []) → AreAliasesStored root running
+aliases_before : (root : RootView) (running : List AliasDecl) (x : AliasDecl) → AreModulesOfAliasesStored root (running ++ x ∷ [])
+    → AreModulesOfAliasesStored root running
 aliases_before root [] x stored k d h = absurd (omega (arith, h))
 aliases_before root (y ∷ running) x stored zero d h = stored 0 d (omega arith)
 aliases_before root (y ∷ running) x stored (suc k) d h =
@@ -119,21 +124,23 @@ aliases_before root (y ∷ running) x stored (suc k) d h =
 -- an alias
 pub resumed_alias : (start : SearchStart) (root : RootView) (running : List AliasDecl) (visited : List UniqueSymbolId) (frames : List Frame)
     (paths : Vec PathBuilder Global) (w : Box AliasSearch Global) (next : Expansion) (now : List AliasDecl) (outer : List UniqueSymbolId)
-    → IsSearchValid start root running visited (frame.Alias w ∷ frames) (Found paths)
+    → IsSearchOfNeededModules start root running visited (frame.Alias w ∷ frames) (Found paths)
     → now ≡ aliases_with_frames start.running frames → outer ≡ w.value.visited.keys
-    → IsNextDecl w.value.here next (λ later. link_unless_empty (alias_link_head (symbol_of_unique_id later w.value.here.symbol) w.value.here.index
+    → IsExpansionAtNextDecl w.value.here next (λ later. forest_below_link_unless_empty
+    (alias_link_head (symbol_of_unique_id later w.value.here.symbol) w.value.here.index
     (remaining_parts w.value.parts)) (built_paths later paths.items)) → AreModulesStored root (modules_of_builders next.paths.items)
-    → IsStep start root visited (frame.Alias w ∷ frames) (Found paths) root now outer frames (Expand next)
+    → IsStepWithSameOutcomeAndLessWork start root visited (frame.Alias w ∷ frames) (Found paths) root now outer frames (Expand next)
 resumed_alias start root running visited frames paths w next now outer valid now_is outer_is is stored =
     let n = length (aliases_with_frames start.running frames) in
     let here = w.value.here in
-    let back = λ (later : RootView). link_unless_empty (alias_link_head (symbol_of_unique_id later here.symbol) here.index
+    let back = λ (later : RootView). forest_below_link_unless_empty (alias_link_head (symbol_of_unique_id later here.symbol) here.index
     (remaining_parts w.value.parts)) (built_paths later paths.items) in
-    let stored_aliases = subst (AreAliasesStored root) valid.running_so valid.aliases in
+    let stored_aliases = subst (AreModulesOfAliasesStored root) valid.running_so valid.aliases in
     rw (outer_is) (record {
       valid = record {
         running_so = now_is;
-        aliases = subst (AreAliasesStored root) (sym now_is) (aliases_before root (aliases_with_frames start.running frames) (alias_at here) stored_aliases);
+        aliases = subst (AreModulesOfAliasesStored root) (sym now_is)
+            (aliases_before root (aliases_with_frames start.running frames) (alias_at_current_decl here) stored_aliases);
         symbols = valid.frames_valid.1;
         few = valid.frames_valid.2;
         frames_valid = valid.frames_valid.3;
@@ -143,8 +150,8 @@ resumed_alias start root running visited frames paths w next now outer valid now
       };
       comes = λ later on F A y. (
         omega (arith, valid.few, length-map visited (symbol_of_unique_id later)),
-        next_on later (Unwinds later start.running F A frames) (decls_of_aliases later (aliases_with_frames start.running frames))
+        next_on later (FramesUnwindToResult later start.running F A frames) (decls_of_aliases later (aliases_with_frames start.running frames))
             (symbols_of_unique_ids later w.value.visited.keys) here next back is y,
       );
-      less = omega (arith, next_left here next back (for_decl n (length w.value.visited.keys)) is);
+      less = omega (arith, next_left here next back (work_of_decl_search n (length w.value.visited.keys)) is);
     })

@@ -21,33 +21,36 @@ use Rattle.symbols_paths.specs.inner.Views.{symbol_of_unique_id}
 use Rattle.symbols_paths.specs.NeededModules.{AreNewlyStoredAmong}
 use Rattle.symbols_paths.specs.laws.Storing.{newly_stored_by_two_calls}
 use Rattle.symbols_paths.specs.inner.PathBuilders.{remaining_parts, built_paths, modules_of_builders}
-use Rattle.symbols_paths.specs.inner.SearchSteps.{symbols_of_unique_ids, decls_of_aliases, HasSearched, ArePathsFoundForSymbol, ArePathsFoundWithParts}
-use Rattle.symbols_paths.specs.inner.StillToCome.{Searching, ResolvingParts, Comes}
-use Rattle.symbols_paths.specs.inner.SearchInvariants.{SearchStart, IsFew, IsNeeded, IsSearchValid, IsStep, IsFoundAtLast, is_over}
+use Rattle.symbols_paths.specs.inner.SearchSteps.{symbols_of_unique_ids, decls_of_aliases, AreVisitedGrownAndModulesStored, ArePathsFoundForSymbol}
+use Rattle.symbols_paths.specs.inner.SearchSteps.{ArePathsFoundWithParts}
+use Rattle.symbols_paths.specs.inner.StillToCome.{HoldsAfterSymbolSearch, HoldsAfterPartsInForest, StepLeadsToResult}
+use Rattle.symbols_paths.specs.inner.SearchInvariants.{SearchStart, AreVisitedSymbolsFewEnoughForSet, IsNeededBySearchFromStart, IsSearchOfNeededModules}
+use Rattle.symbols_paths.specs.inner.SearchInvariants.{IsStepWithSameOutcomeAndLessWork, IsFinalResultOfSearch, is_search_over}
 use Rattle.symbols_paths.proofs.ChosenComputed.{finds_longer, walks_longer}
 use Rattle.symbols_paths.proofs.Needing.{needed_in_older}
 
 -- before each step: what comes of it, in every later root, comes of the first one
 pub record AreSteps (start : SearchStart) (old : RootView) (at_search_start : List UniqueSymbolId) (waiting : List Frame) (first : Step) (root : RootView)
     (running : List AliasDecl) (visited : List UniqueSymbolId) (frames : List Frame) (step : Step) : Type 0 where
-  pub valid : IsSearchValid start root running visited frames step
+  pub valid : IsSearchOfNeededModules start root running visited frames step
   pub grown : HasGrown old root
-  pub stores : AreNewlyStoredAmong old root (IsNeeded start old)
+  pub stores : AreNewlyStoredAmong old root (IsNeededBySearchFromStart start old)
   pub comes : (later : RootView) → HasGrown root later → (F : PathForest) (A : List SymbolBySpecifier)
-      → Comes later start.running F A visited frames step → Comes later start.running F A at_search_start waiting first
+      → StepLeadsToResult later start.running F A visited frames step → StepLeadsToResult later start.running F A at_search_start waiting first
 
 module _ {start : SearchStart} {old : RootView} {at_search_start : List UniqueSymbolId} {waiting : List Frame} {first : Step} {root : RootView}
     {running : List AliasDecl} {visited : List UniqueSymbolId} {frames : List Frame} {step : Step}
     (is : AreSteps start old at_search_start waiting first root running visited frames step) where
-  pub still_needed_before : (v : List ℕ) → IsNeeded start root v → IsNeeded start old v
+  pub still_needed_before : (v : List ℕ) → IsNeededBySearchFromStart start root v → IsNeededBySearchFromStart start old v
   still_needed_before v needed = needed_in_older is.grown needed
 
-  pub stores_on : {new : RootView} → AreNewlyStoredAmong root new (IsNeeded start root) → AreNewlyStoredAmong old new (IsNeeded start old)
+  pub stores_on : {new : RootView} → AreNewlyStoredAmong root new (IsNeededBySearchFromStart start root)
+      → AreNewlyStoredAmong old new (IsNeededBySearchFromStart start old)
   stores_on more = newly_stored_by_two_calls is.stores more still_needed_before
 
   pub next_steps : {new : RootView} {running_then : List AliasDecl} {visited_then : List UniqueSymbolId} {frames_then : List Frame} {step_then : Step}
-      → HasGrown root new → AreNewlyStoredAmong root new (IsNeeded start root)
-      → IsStep start root visited frames step new running_then visited_then frames_then step_then
+      → HasGrown root new → AreNewlyStoredAmong root new (IsNeededBySearchFromStart start root)
+      → IsStepWithSameOutcomeAndLessWork start root visited frames step new running_then visited_then frames_then step_then
       → AreSteps start old at_search_start waiting first new running_then visited_then frames_then step_then
   next_steps grown more is_step = record {
     valid = is_step.valid;
@@ -56,28 +59,29 @@ module _ {start : SearchStart} {old : RootView} {at_search_start : List UniqueSy
     comes = λ later on F A y. is.comes later (has_grown_trans grown on) F A (is_step.comes later on F A y);
   }
 
-  over_comes : (paths : Vec PathBuilder Global) → is_over frames step ≡ true → step ≡ Found paths → (later : RootView)
-      → Comes later start.running (built_paths later paths.items) (symbols_of_unique_ids later visited) visited frames step
-  over_comes paths over found later = subst (λ t. Comes later start.running (built_paths later paths.items) (symbols_of_unique_ids later visited) visited
-      frames t) (sym found) (by frames (subst (λ t. is_over frames t ≡ true) found over))
+  over_comes : (paths : Vec PathBuilder Global) → is_search_over frames step ≡ true → step ≡ Found paths → (later : RootView)
+      → StepLeadsToResult later start.running (built_paths later paths.items) (symbols_of_unique_ids later visited) visited frames step
+  over_comes paths over found later = subst (λ t. StepLeadsToResult later start.running (built_paths later paths.items) (symbols_of_unique_ids later visited)
+      visited frames t) (sym found) (by frames (subst (λ t. is_search_over frames t ≡ true) found over))
     where
-      by : (fs : List Frame) → is_over fs (Found paths) ≡ true
-          → Comes later start.running (built_paths later paths.items) (symbols_of_unique_ids later visited) visited fs (Found paths)
+      by : (fs : List Frame) → is_search_over fs (Found paths) ≡ true
+          → StepLeadsToResult later start.running (built_paths later paths.items) (symbols_of_unique_ids later visited) visited fs (Found paths)
       by [] h = (refl, refl)
       by (f ∷ fs) h = cc
 
-  pub found_at_last : (paths : Vec PathBuilder Global) → is_over frames step ≡ true → step ≡ Found paths
-      → IsFoundAtLast start old at_search_start waiting first root visited paths.items
+  pub found_at_last : (paths : Vec PathBuilder Global) → is_search_over frames step ≡ true → step ≡ Found paths
+      → IsFinalResultOfSearch start old at_search_start waiting first root visited paths.items
   found_at_last paths over found =
-      let valid = subst (λ t. IsSearchValid start root running visited frames t) found is.valid in
+      let valid = subst (λ t. IsSearchOfNeededModules start root running visited frames t) found is.valid in
       record {
         symbols = is.valid.symbols;
-        few = by frames (subst (λ t. is_over frames t ≡ true) found over) is.valid.few;
+        few = by frames (subst (λ t. is_search_over frames t ≡ true) found over) is.valid.few;
         stored = valid.step_valid.stored;
         came = λ later on. is.comes later on (built_paths later paths.items) (symbols_of_unique_ids later visited) (over_comes paths over found later);
       }
     where
-      by : (fs : List Frame) → is_over fs (Found paths) ≡ true → IsFew start fs (length visited) → start.visited ≤ 2 ^ 64 → length visited ≤ 2 ^ 64
+      by : (fs : List Frame) → is_search_over fs (Found paths) ≡ true → AreVisitedSymbolsFewEnoughForSet start fs (length visited) → start.visited ≤ 2 ^ 64
+          → length visited ≤ 2 ^ 64
       by [] h few = few
       by (f ∷ fs) h few = cc
 
@@ -85,7 +89,7 @@ module _ {start : SearchStart} {old : RootView} {at_search_start : List UniqueSy
 
 module _ {start : SearchStart} {root : RootView} {visited : List UniqueSymbolId} {s : UniqueSymbolId} {new : RootView} {after : List UniqueSymbolId}
     {paths : List PathBuilder} where
-  pub symbol_found : IsFoundAtLast start root visited [] (Search s) new after paths
+  pub symbol_found : IsFinalResultOfSearch start root visited [] (Search s) new after paths
       → ArePathsFoundForSymbol new start.running visited s paths after
   symbol_found is later grown =
       let y = is.came later grown in
@@ -93,8 +97,8 @@ module _ {start : SearchStart} {root : RootView} {visited : List UniqueSymbolId}
       (decls_of_aliases later start.running)
       (symbols_of_unique_ids later visited) (symbol_of_unique_id later s) v.0 v.1) (λ i. (y.3.0 i, y.3.1 i)) y.2
 
-  pub symbol_searched : start.visited ≡ length visited → IsFoundAtLast start root visited [] (Search s) new after paths → HasSearched new visited after
-      (modules_of_builders paths)
+  pub symbol_searched : start.visited ≡ length visited → IsFinalResultOfSearch start root visited [] (Search s) new after paths
+      → AreVisitedGrownAndModulesStored new visited after (modules_of_builders paths)
   symbol_searched count is = record {
     numbered = is.symbols;
     longer = omega (
@@ -107,11 +111,11 @@ module _ {start : SearchStart} {root : RootView} {visited : List UniqueSymbolId}
     stored = is.stored;
   }
 
-  pub parts_found : (ps : SharedParts) → IsFoundAtLast start root visited (frame.Parts ps ∷ []) (Search s) new after paths
+  pub parts_found : (ps : SharedParts) → IsFinalResultOfSearch start root visited (frame.Parts ps ∷ []) (Search s) new after paths
       → ArePathsFoundWithParts new start.running visited s (remaining_parts ps) paths after
   parts_found ps is later grown = by (remaining_parts ps) (is.came later grown)
     where
-      by : (qs : QualifiedNameParts) → Searching (search_targets_of_root later) (ResolvingParts (search_targets_of_root later)
+      by : (qs : QualifiedNameParts) → HoldsAfterSymbolSearch (search_targets_of_root later) (HoldsAfterPartsInForest (search_targets_of_root later)
           (λ f last. (f ≡ built_paths later paths) × (last ≡ symbols_of_unique_ids later after)) (decls_of_aliases later start.running) qs)
           (decls_of_aliases later start.running) (symbols_of_unique_ids later visited) (symbol_of_unique_id later s)
           → IsOutcomeOfSearchWithParts (search_targets_of_root later) search_limit (decls_of_aliases later start.running) (symbols_of_unique_ids later visited)
@@ -123,8 +127,9 @@ module _ {start : SearchStart} {root : RootView} {visited : List UniqueSymbolId}
           (decls_of_aliases later start.running) (symbols_of_unique_ids later visited) (symbol_of_unique_id later s) (q ∷ qs) v.0 v.1)
           (λ i. (y.3.3.0 i, y.3.3.1 i)) (under y.2 y.3.2)
 
-  pub parts_searched : (ps : SharedParts) → start.visited ≡ length visited → IsFoundAtLast start root visited (frame.Parts ps ∷ []) (Search s) new after paths
-      → HasSearched new visited after (modules_of_builders paths)
+  pub parts_searched : (ps : SharedParts) → start.visited ≡ length visited → IsFinalResultOfSearch start root visited (frame.Parts ps ∷ []) (Search s) new after
+      paths
+      → AreVisitedGrownAndModulesStored new visited after (modules_of_builders paths)
   parts_searched ps count is = record {
     numbered = is.symbols;
     longer = omega (

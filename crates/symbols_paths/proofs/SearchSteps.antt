@@ -10,7 +10,7 @@ use Rattle.symbols_root.specs.laws.Growing.{stored_id_remains_stored}
 use Rattle.symbols_paths.specs.declared.alias_decl.AliasDecl.{AliasDecl}
 use Rattle.symbols_paths.specs.Choice.{is_visited, is_alias_being_resolved}
 use Rattle.symbols_paths.specs.inner.Views.{symbol_of_unique_id}
-use Rattle.symbols_paths.specs.inner.SearchSteps.{AreSymbolsStored, AreAliasesStored, symbols_of_unique_ids, decls_of_aliases, decl_of_alias}
+use Rattle.symbols_paths.specs.inner.SearchSteps.{AreModulesOfSymbolsStored, AreModulesOfAliasesStored, symbols_of_unique_ids, decls_of_aliases, decl_of_alias}
 use Rattle.symbols_paths.proofs.GrownRoots.{same_number}
 
 -- whether two ids are of one symbol, as the set of visited symbols compares them
@@ -19,7 +19,7 @@ is_symbol x y = nat_eq x.module_id.0 y.module_id.0 && nat_eq x.symbol_id.0 y.sym
 
 -- a symbol is visited by ids if and only if it is by specifiers
 pub visited_by_name : (root : RootView) → IsDistinct bytes_eq root.stored → (visited : List UniqueSymbolId) (s : UniqueSymbolId)
-    → AreSymbolsStored root visited → s.module_id.0 < length root.stored
+    → AreModulesOfSymbolsStored root visited → s.module_id.0 < length root.stored
     → list_any (is_symbol s) visited ≡ is_visited (symbols_of_unique_ids root visited) (symbol_of_unique_id root s)
 visited_by_name root once [] s numbered within = refl
 visited_by_name root once (m ∷ visited) s numbered within =
@@ -31,8 +31,8 @@ pub named_with : (root : RootView) (visited : List UniqueSymbolId) (s : UniqueSy
     → symbols_of_unique_ids root (visited ++ s ∷ []) ≡ symbols_of_unique_ids root visited ++ symbol_of_unique_id root s ∷ []
 named_with root visited s = map-append (symbol_of_unique_id root) visited (s ∷ [])
 
-pub numbered_with : (root : RootView) (visited : List UniqueSymbolId) (s : UniqueSymbolId) → AreSymbolsStored root visited
-    → s.module_id.0 < length root.stored → AreSymbolsStored root (visited ++ s ∷ [])
+pub numbered_with : (root : RootView) (visited : List UniqueSymbolId) (s : UniqueSymbolId) → AreModulesOfSymbolsStored root visited
+    → s.module_id.0 < length root.stored → AreModulesOfSymbolsStored root (visited ++ s ∷ [])
 numbered_with root [] s numbered within zero d h = within
 numbered_with root [] s numbered within (suc k) d h = absurd (omega (arith, h))
 numbered_with root (m ∷ visited) s numbered within zero d h = numbered 0 d (omega arith)
@@ -48,7 +48,7 @@ and_assoc : (a b c : Bool) → (a && (b && c)) ≡ ((a && b) && c)
 and_assoc true b c = refl
 and_assoc false b c = refl
 
-pub running_by_name : (root : RootView) → IsDistinct bytes_eq root.stored → (running : List AliasDecl) (d : AliasDecl) → AreAliasesStored root running
+pub running_by_name : (root : RootView) → IsDistinct bytes_eq root.stored → (running : List AliasDecl) (d : AliasDecl) → AreModulesOfAliasesStored root running
     → d.«module».0 < length root.stored → list_any (is_alias_decl d) running ≡ is_alias_being_resolved (decls_of_aliases root running) (decl_of_alias root d)
 running_by_name root once [] d numbered within = refl
 running_by_name root once (m ∷ running) d numbered within =
@@ -62,13 +62,14 @@ pub running_with : (root : RootView) (running : List AliasDecl) (d : AliasDecl)
     → decls_of_aliases root (running ++ d ∷ []) ≡ decls_of_aliases root running ++ decl_of_alias root d ∷ []
 running_with root running d = map-append (decl_of_alias root) running (d ∷ [])
 
-pub aliases_with : (root : RootView) (running : List AliasDecl) (d : AliasDecl) → AreAliasesStored root running → d.«module».0 < length root.stored
-    → AreAliasesStored root (running ++ d ∷ [])
+pub aliases_with : (root : RootView) (running : List AliasDecl) (d : AliasDecl) → AreModulesOfAliasesStored root running → d.«module».0 < length root.stored
+    → AreModulesOfAliasesStored root (running ++ d ∷ [])
 aliases_with root [] d numbered within zero e h = within
 aliases_with root [] d numbered within (suc k) e h = absurd (omega (arith, h))
 aliases_with root (m ∷ running) d numbered within zero e h = numbered 0 e (omega arith)
 aliases_with root (m ∷ running) d numbered within (suc k) e h =
     aliases_with root running d (λ j q g. numbered (suc j) q (omega (arith, g))) within k e (omega (arith, h))
 
-pub still_aliases : {root more : RootView} → HasGrown root more → (running : List AliasDecl) → AreAliasesStored root running → AreAliasesStored more running
+pub still_aliases : {root more : RootView} → HasGrown root more → (running : List AliasDecl) → AreModulesOfAliasesStored root running
+    → AreModulesOfAliasesStored more running
 still_aliases grown running numbered = λ k e within. stored_id_remains_stored grown (get_or running k e).«module».0 (numbered k e within)

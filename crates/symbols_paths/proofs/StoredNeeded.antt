@@ -10,7 +10,7 @@ use Rattle.symbols_ast.specs.Graph.{GraphView}
 use Rattle.symbols_table.specs.DeclViews.{all_names, file_ref, Declaration}
 use Rattle.symbols_table.specs.declared.info.fault.SymbolsFault.{SymbolsFault}
 use Rattle.symbols_root.specs.declared.rules.Rules.{Rules}
-use Rattle.symbols_root.specs.Roots.{RootView, specifier_in, with_stored_module}
+use Rattle.symbols_root.specs.Roots.{RootView, specifier_in, root_with_stored_module}
 use Rattle.symbols_root.specs.Growing.{HasGrown}
 use Rattle.symbols_root.specs.Calls.{IsStored}
 use Rattle.symbols_root.specs.laws.Growing.{specifier_unchanged_by_growth}
@@ -25,7 +25,7 @@ use Rattle.symbols_paths.specs.Views.{definition_by_specifier, strings_view}
 use Rattle.symbols_paths.specs.inner.Views.{symbol_of_unique_id, first_part, later_parts}
 use Rattle.symbols_paths.specs.inner.SearchSteps.{IsImportDeclared}
 use Rattle.symbols_paths.specs.inner.Needed.{IsNeededFrom, IsSearchedForExportOf, IsSearchedAlongStarsOf, IsNeededAlongStarsOf, IsNeededFromCandidate}
-use Rattle.symbols_paths.specs.inner.Needed.{IsSearchedInImport, IsStarImportDeclared, StoresOnlyTarget}
+use Rattle.symbols_paths.specs.inner.Needed.{IsSearchedInImport, IsStarImportDeclared, StoresOnlyResolvedModule}
 use Rattle.symbols_paths.specs.NeededModules.{IsModuleSearchedForExport, IsModuleSearchedAlongStars, imported_module, searched_along_stars, at_search_start}
 use Rattle.symbols_paths.specs.NeededModules.{module_of_namespace_import_part, part_of_query, AreNewlyStoredAmong}
 use Rattle.symbols_paths.specs.laws.Storing.{newly_stored_none_if_same_root, newly_stored_among_more, newly_stored_by_two_calls, newly_stored_needed_module}
@@ -39,18 +39,18 @@ use Rattle.symbols_paths.proofs.ResolvedSpecifiers.{OccursAmongStars, then_searc
 
 -- the module that a specifier resolves to is stored, if it resolves to one
 pub stores_target : {A : Type 0} (result : Result A SymbolsFault) (old new : RootView) (needed : Option (List ℕ))
-    → OnOk result (new ≡ with_stored_module old needed) → OnErr result (new ≡ old) → AreNewlyStoredAmong old new (λ v. needed ≡ Some v)
+    → OnOk result (new ≡ root_with_stored_module old needed) → OnErr result (new ≡ old) → AreNewlyStoredAmong old new (λ v. needed ≡ Some v)
 stores_target (Ok x) old new needed stored unchanged = newly_stored_needed_module old new needed stored
 stores_target (Err fault) old new needed stored unchanged = newly_stored_none_if_same_root old new unchanged
 
 -- the search along `export *` statements comes to the module of a statement
 pub stores_there : (old new : RootView) (id : ModuleId) (specifier_text name : List ℕ) → OccursAmongStars old.graph (specifier_in old id) specifier_text
-    → StoresOnlyTarget old new id specifier_text → AreNewlyStoredAmong old new (IsSearchedAlongStarsOf old id name)
+    → StoresOnlyResolvedModule old new id specifier_text → AreNewlyStoredAmong old new (IsSearchedAlongStarsOf old id name)
 stores_there old new id specifier_text name occurs is =
     newly_stored_among_more is (λ v target. there_searched old.graph (specifier_in old id) specifier_text name v occurs target)
 
 -- the search in an imported module begins there
-pub stores_imported : (old new : RootView) (id : ModuleId) (specifier_text name : List ℕ) → StoresOnlyTarget old new id specifier_text
+pub stores_imported : (old new : RootView) (id : ModuleId) (specifier_text name : List ℕ) → StoresOnlyResolvedModule old new id specifier_text
     → AreNewlyStoredAmong old new (IsSearchedInImport old id specifier_text name)
 stores_imported old new id specifier_text name is = newly_stored_among_more is (λ v target. (v, target, searched_itself old.graph v name))
 
@@ -79,7 +79,7 @@ stores_unexported old new id name fault lookups (inr is) = newly_stored_chain_en
 -- after the module of an `export *` statement was stored, an export of it is looked up
 pub stores_along : (old mid new : RootView) (id target : ModuleId) (specifier_text name : List ℕ) → HasGrown old mid
     → OccursAmongStars old.graph (specifier_in old id) specifier_text
-    → resolve_specifier old.graph (specifier_in old id) specifier_text ≡ Some (specifier_in mid target) → StoresOnlyTarget old mid id specifier_text
+    → resolve_specifier old.graph (specifier_in old id) specifier_text ≡ Some (specifier_in mid target) → StoresOnlyResolvedModule old mid id specifier_text
     → AreNewlyStoredAmong mid new (IsSearchedForExportOf mid target name) → AreNewlyStoredAmong old new (IsSearchedAlongStarsOf old id name)
 stores_along old mid new id target specifier_text name grown occurs leads first then =
     newly_stored_by_two_calls (stores_there old mid id specifier_text name occurs first) then (λ v searched.

@@ -15,7 +15,8 @@ use Rattle.symbols_table.specs.declared.decl.symbol_decl.SymbolDecl.{SymbolDecl}
 use Rattle.symbols_table.specs.declared.info.es_module.EsModuleInfo.{EsModuleInfo}
 use Rattle.symbols_table.specs.declared.info.json_module.JsonModuleInfo.{JsonModuleInfo}
 use Rattle.symbols_table.specs.Analysis.{table_changes_from_tree_or_json, table_changes_from_json}
-use Rattle.symbols_table.specs.Changes.{Change, adds_symbol, adds_decl, exports, adds_child, exported_symbol, parents_after, decls_after, decl_added_by}
+use Rattle.symbols_table.specs.Changes.{Change, adds_symbol, adds_decl, exports, adds_child, exported_symbol_after_changes, parents_after_changes}
+use Rattle.symbols_table.specs.Changes.{decls_after_changes, decl_added_by}
 use Rattle.symbols_table.specs.DeclViews.{Declaration, decl_view, append_decl_with_overload_flag, is_definition}
 use Rattle.symbols_table.specs.Events.{EventEffect, effect_of_redeclaring_or, new_symbol_effect, next_symbol_id, default_export_effect, default_export_name}
 use Rattle.symbols_table.specs.Events.{changes_of_effects, effects_after_events, symbol_of_event_at}
@@ -24,7 +25,7 @@ use Rattle.symbols_table.specs.Modules.{SymbolTable, json_symbol_table}
 use Rattle.symbols_table.specs.Symbols.{symbol_decls, symbol_export_entries}
 use Rattle.symbols_table.specs.SymbolViews.{SymbolView, symbol_view, symbol_after_changes, symbol_from_changes}
 use Rattle.symbols_root.specs.Roots.{RootView, IsTableOfStoredModule, specifier_in}
-use Rattle.symbols_root.specs.GraphModules.{changes_of_module}
+use Rattle.symbols_root.specs.GraphModules.{table_changes_of_module}
 use Rattle.symbols_root.specs.laws.StoredTables.{stored_table_has_module_symbols}
 use Rattle.symbols_exports.specs.StarStatements.{explicit_exports_of}
 use Rattle.symbols_paths.specs.DeclTargets.{declarations_of}
@@ -46,7 +47,7 @@ no_decls root s table stored at = sym (ap (λ found. option_map_or (λ (x : Symb
 pub symbol_exports : (root : RootView) (s : UniqueSymbolId) (table : SymbolTable) (symbol : Symbol) → IsTableOfStoredModule root s.module_id table
     → slice_get table.symbols s.symbol_id.0 ≡ Some symbol
     → symbol_export_entries symbol ≡ option_map_or (λ (x : SymbolView). x.exports)
-    (symbol_after_changes (changes_of_module root.graph (specifier_in root s.module_id)) s.symbol_id) []
+    (symbol_after_changes (table_changes_of_module root.graph (specifier_in root s.module_id)) s.symbol_id) []
 symbol_exports root s table symbol stored at = ap (λ found. option_map_or (λ (x : SymbolView). x.exports) found []) (sym (ap (option_map symbol_view) at)
     ∙ stored_table_has_module_symbols root s.module_id table stored s.symbol_id)
 
@@ -54,16 +55,16 @@ symbol_exports root s table symbol stored at = ap (λ found. option_map_or (λ (
 pub stored_exports : (root : RootView) (module_id : ModuleId) (table : SymbolTable) (symbol : Symbol) → IsTableOfStoredModule root module_id table
     → slice_get table.symbols 0 ≡ Some symbol → symbol_export_entries symbol ≡ explicit_exports_of root.graph (specifier_in root module_id)
 stored_exports root module_id table symbol stored first =
-    let changes = changes_of_module root.graph (specifier_in root module_id) in
-    by (slice_get (parents_after changes) 0) (sym (ap (option_map symbol_view) first)
+    let changes = table_changes_of_module root.graph (specifier_in root module_id) in
+    by (slice_get (parents_after_changes changes) 0) (sym (ap (option_map symbol_view) first)
     ∙ stored_table_has_module_symbols root module_id table stored (record { 0 = 0 }))
   where
     by : (parent : Option (Option SymbolId))
-        → Some (symbol_view symbol) ≡ option_map (symbol_from_changes (changes_of_module root.graph (specifier_in root module_id))
+        → Some (symbol_view symbol) ≡ option_map (symbol_from_changes (table_changes_of_module root.graph (specifier_in root module_id))
         (record { 0 = 0 })) parent → symbol_export_entries symbol ≡ explicit_exports_of root.graph (specifier_in root module_id)
     by None none = absurd cc
     by (Some parent) same = ap (λ (view : SymbolView). view.exports)
-        (same_Some (symbol_view symbol) (symbol_from_changes (changes_of_module root.graph (specifier_in root module_id)) (record { 0 = 0 }) parent) same)
+        (same_Some (symbol_view symbol) (symbol_from_changes (table_changes_of_module root.graph (specifier_in root module_id)) (record { 0 = 0 }) parent) same)
 
 -- ---- how many declarations a symbol may have
 
@@ -81,8 +82,8 @@ no_longer {B = B} f (x ∷ xs) = by (f x) (filter_map f xs) (no_longer f xs)
     by None ys h = omega (arith, h)
     by (Some y) ys h = omega (arith, h)
 
-few_after : (changes : List Change) (s : SymbolId) → length (decls_after changes s) ≤ length changes
-unfolding decls_after
+few_after : (changes : List Change) (s : SymbolId) → length (decls_after_changes changes s) ≤ length changes
+unfolding decls_after_changes
 few_after changes s = omega (arith, declared_fold (filter_map (decl_added_by s) changes) [], no_longer (decl_added_by s) changes)
 
 -- a JSON text makes at most six changes
@@ -92,8 +93,8 @@ found_few None decl row h = h
 found_few (Some s) decl row h = omega arith
 
 default_few : (before : List Change) (holder : SymbolId) (decl : Declaration) → length (default_export_effect before holder decl).changes ≤ 4
-default_few before holder decl = found_few (exported_symbol before holder default_export_name) decl (new_symbol_effect before (Some holder) decl more)
-    (by (is_definition decl.kind))
+default_few before holder decl = found_few (exported_symbol_after_changes before holder default_export_name) decl
+    (new_symbol_effect before (Some holder) decl more) (by (is_definition decl.kind))
   where
     more : SymbolId → List Change
     more s = exports holder default_export_name s ∷ (if is_definition decl.kind then adds_child holder s ∷ [] else [])
@@ -140,14 +141,14 @@ few_in_text root s info symbol decls stored at same =
     let made : symbol_after_changes changes s.symbol_id ≡ Some (symbol_view symbol) =
     ap (λ source. symbol_after_changes (table_changes_from_tree_or_json source)
     s.symbol_id) stored.2.is_analyzed_table.source ∙ (sym (stored.2.is_analyzed_table.tables.symbols s.symbol_id) ∙ ap (option_map symbol_view) (sym at)) in
-    by (slice_get (parents_after changes) s.symbol_id.0) made
+    by (slice_get (parents_after_changes changes) s.symbol_id.0) made
   where
     by : (parent : Option (Option SymbolId)) → option_map (symbol_from_changes (table_changes_from_json info.text.now) s.symbol_id) parent ≡ Some
         (symbol_view symbol)
         → length decls < 4294967296
     by None none = absurd cc
     by (Some parent) made =
-        let decls_are : decls_after (table_changes_from_json info.text.now) s.symbol_id ≡ symbol_decls symbol =
+        let decls_are : decls_after_changes (table_changes_from_json info.text.now) s.symbol_id ≡ symbol_decls symbol =
         ap (λ (x : SymbolView). x.decls) (same_Some (symbol_from_changes (table_changes_from_json info.text.now) s.symbol_id parent) (symbol_view symbol) made)
         in
         omega (

@@ -13,13 +13,14 @@ use Rattle.symbols_table.specs.DeclViews.{DeclKindView, target, qualified_target
 use Rattle.symbols_root.specs.declared.rules.Rules.{Rules}
 use Rattle.symbols_exports.specs.StarStatements.{resolve_specifier}
 use Rattle.symbols_paths.specs.PathTrees.{SymbolBySpecifier, DeclBySpecifier, DefinitionView, UnresolvedEntry, no_symbol, no_module, no_part, LinkHead}
-use Rattle.symbols_paths.specs.PathTrees.{PathForest, definition, unresolved, no_trees, more_trees, joined_forests, link_unless_empty, leaves_of_forest}
-use Rattle.symbols_paths.specs.DeclTargets.{ForwardTarget, DeclTargetView, DeclTargets, defines, forwards, alias, IsTargetOfNthDecl}
-use Rattle.symbols_paths.specs.DeclTargets.{symbol_of_id, explicit_export, re_exported_symbols_by_rules, forward_to_unresolved, forward_within_module}
-use Rattle.symbols_paths.specs.DeclTargets.{alias_target, forward_of_import, forward_into_module, declarations_of, target_of_decl}
+use Rattle.symbols_paths.specs.PathTrees.{PathForest, definition, unresolved, no_trees, more_trees, joined_forests, forest_below_link_unless_empty}
+use Rattle.symbols_paths.specs.PathTrees.{leaves_of_forest}
+use Rattle.symbols_paths.specs.DeclTargets.{ForwardTarget, DeclTargetView, DeclTargets, defines, forwards, alias, IsTargetOfNthDecl, symbol_of_id}
+use Rattle.symbols_paths.specs.DeclTargets.{explicit_export, re_exported_symbols_by_rules, forward_target_to_unresolved, forward_target_within_module}
+use Rattle.symbols_paths.specs.DeclTargets.{alias_target, forward_target_of_import, forward_target_into_module, declarations_of, target_of_decl}
 use Rattle.symbols_paths.specs.PartTargets.{SearchTargets, search_targets_of}
 use Rattle.symbols_paths.specs.Derived.{decl_of_symbol_at_index, definition_of_decl, link_head_of_forward, alias_link_head}
-use Rattle.symbols_paths.specs.FirstReach.{is_alias_target, is_alias_decl_at, leaves_outside_aliases, IsPartUnresolvedOnlyAfterCandidates}
+use Rattle.symbols_paths.specs.FirstReach.{is_alias_target, is_alias_decl_at, leaves_outside_aliases, HasCandidateLeavesIfPartUnresolved}
 use Rattle.symbols_paths.specs.Choice.{is_visited, IsOutcomeOfSymbolSearch, already_visited, is_new, IsOutcomeOfDeclListSearch, no_decl_left, step}
 use Rattle.symbols_paths.specs.Choice.{IsOutcomeOfDeclSearch, decl_is_definition}
 use Rattle.symbols_paths.specs.Choice.{decl_forwards, by_alias_being_resolved, via_alias, IsOutcomeOfCandidateSearch, no_candidate_left}
@@ -35,12 +36,12 @@ outer-join table no_trees g = refl
 outer-join table (more_trees t f) g = rw (outer-join table f g, append_assoc) refl
 
 outer-link_unless_empty : (table : DeclTargets) (head : LinkHead) (f : PathForest) → is_alias_decl_at table head.decl ≡ false
-    → leaves_outside_aliases table (link_unless_empty head f) ≡ leaves_outside_aliases table f
+    → leaves_outside_aliases table (forest_below_link_unless_empty head f) ≡ leaves_outside_aliases table f
 outer-link_unless_empty table head no_trees e = refl
 outer-link_unless_empty table head (more_trees t f) e = rw e (append-nil (leaves_outside_aliases table (more_trees t f)))
 
 outer-alias : (table : DeclTargets) (head : LinkHead) (f : PathForest) → is_alias_decl_at table head.decl ≡ true
-    → leaves_outside_aliases table (link_unless_empty head f) ≡ []
+    → leaves_outside_aliases table (forest_below_link_unless_empty head f) ≡ []
 outer-alias table head no_trees e = refl
 outer-alias table head (more_trees t f) e = rw e refl
 
@@ -106,7 +107,7 @@ left_over routes visited (Some x) = record { all = λ m h. inl (ap Some (only_mi
 -- the candidates tried are those of the declaration
 settled : {routes : SearchTargets} {f : PathForest} {after : List SymbolBySpecifier} (s : SymbolBySpecifier) (i : ℕ) (forward : ForwardTarget)
     → IsTargetOfNthDecl routes.decl_targets s i (forwards forward) → AreTried routes forward.candidates forward.otherwise f after
-    → AreNamed routes (link_unless_empty (link_head_of_forward s i forward) f) after
+    → AreNamed routes (forest_below_link_unless_empty (link_head_of_forward s i forward) f) after
 settled {routes = routes} {f = f} s i forward st x = record {
   all = λ m h. elim
       (x.all m (rw (outer-link_unless_empty routes.decl_targets (link_head_of_forward s i forward) f
@@ -118,7 +119,7 @@ settled {routes = routes} {f = f} s i forward st x = record {
 
 -- after an alias there is nothing to prove
 aliased : {routes : SearchTargets} {after : List SymbolBySpecifier} (s t : SymbolBySpecifier) (i : ℕ) (ps : List (List ℕ)) (f : PathForest)
-    → IsTargetOfNthDecl routes.decl_targets s i (alias t ps) → AreNamed routes (link_unless_empty (alias_link_head s i ps) f) after
+    → IsTargetOfNthDecl routes.decl_targets s i (alias t ps) → AreNamed routes (forest_below_link_unless_empty (alias_link_head s i ps) f) after
 aliased {routes = routes} s t i ps f st = record {
   all = λ m h.
       absurd (none_in (unresolved m)
@@ -202,32 +203,33 @@ no_text specifier_text name e = cc
 same_name : (a b : List ℕ) → no_part a ≡ no_part b → a ≡ b
 same_name a b e = cc
 
-target_part : (rules : Rules) (graph : GraphView) (s : SymbolBySpecifier) (t : Option SymbolId) → IsOfPart rules graph (forwards (forward_within_module s t))
-target_part rules graph s None = led_part rules graph (forward_within_module s None) (λ specifier name parts o. absurd cc)
-target_part rules graph s (Some t) = led_part rules graph (forward_within_module s (Some t)) (λ specifier name parts o. absurd cc)
+target_part : (rules : Rules) (graph : GraphView) (s : SymbolBySpecifier) (t : Option SymbolId)
+    → IsOfPart rules graph (forwards (forward_target_within_module s t))
+target_part rules graph s None = led_part rules graph (forward_target_within_module s None) (λ specifier name parts o. absurd cc)
+target_part rules graph s (Some t) = led_part rules graph (forward_target_within_module s (Some t)) (λ specifier name parts o. absurd cc)
 
 aliased_part : (rules : Rules) (graph : GraphView) (t : SymbolBySpecifier) (ps : List (List ℕ)) → IsOfPart rules graph (alias t ps)
 aliased_part rules graph t ps forward specifier name parts e o = absurd cc
 
 alias_part : (rules : Rules) (graph : GraphView) (s : SymbolBySpecifier) (id : IdView) (ps : List (List ℕ)) (t : Option SymbolId)
     → IsOfPart rules graph (alias_target s id ps t)
-alias_part rules graph s id ps None = led_part rules graph (forward_to_unresolved s ps (record { specifier = s.specifier; reason = no_symbol id; parts = ps }))
-    (λ specifier name parts o. absurd (no_id id name
+alias_part rules graph s id ps None = led_part rules graph (forward_target_to_unresolved s ps
+    (record { specifier = s.specifier; reason = no_symbol id; parts = ps })) (λ specifier name parts o. absurd (no_id id name
     (same_reason (record { specifier = s.specifier; reason = no_symbol id; parts = ps }) (entry specifier name parts) o)))
 alias_part rules graph s id ps (Some t) = aliased_part rules graph (record { specifier = s.specifier; number = t }) ps
 
 into_part : (rules : Rules) (graph : GraphView) (s : SymbolBySpecifier) (n k : List ℕ) (explicit : Option SymbolId)
-    → IsOfPart rules graph (forwards (forward_into_module rules graph s n k explicit))
-into_part rules graph s n k (Some u) = led_part rules graph (forward_into_module rules graph s n k (Some u)) (λ specifier name parts o. absurd cc)
-into_part rules graph s n k None = led_part rules graph (forward_into_module rules graph s n k None) (λ specifier name parts o.
+    → IsOfPart rules graph (forwards (forward_target_into_module rules graph s n k explicit))
+into_part rules graph s n k (Some u) = led_part rules graph (forward_target_into_module rules graph s n k (Some u)) (λ specifier name parts o. absurd cc)
+into_part rules graph s n k None = led_part rules graph (forward_target_into_module rules graph s n k None) (λ specifier name parts o.
     let same = same_Some (entry k n []) (entry specifier name parts) o in
     let at : k ≡ specifier = ap (λ (m : UnresolvedEntry). m.specifier) same in
     let called : n ≡ name = same_name n name (ap (λ (m : UnresolvedEntry). m.reason) same) in
     λ i. re_exported_symbols_by_rules rules graph (at i) (called i))
 
 import_part : (rules : Rules) (graph : GraphView) (s : SymbolBySpecifier) (n specifier_text : List ℕ) (k : Option (List ℕ))
-    → IsOfPart rules graph (forwards (forward_of_import rules graph s n specifier_text k))
-import_part rules graph s n specifier_text None = led_part rules graph (forward_of_import rules graph s n specifier_text None) (λ specifier name parts o.
+    → IsOfPart rules graph (forwards (forward_target_of_import rules graph s n specifier_text k))
+import_part rules graph s n specifier_text None = led_part rules graph (forward_target_of_import rules graph s n specifier_text None) (λ specifier name parts o.
     absurd (no_text specifier_text name (same_reason (record { specifier = s.specifier; reason = no_module specifier_text; parts = [] })
     (entry specifier name parts) o)))
 import_part rules graph s n specifier_text (Some k) = into_part rules graph s n k (explicit_export graph k n)
@@ -251,7 +253,7 @@ at_index rules graph s (decl ∷ decls) (suc i) decl_target e = at_index rules g
 
 pub part_last : (rules : Rules) (graph : GraphView) (limit : ℕ) {running : List DeclBySpecifier} {after : List SymbolBySpecifier} {start : SymbolBySpecifier}
     {f : PathForest}
-    → IsOutcomeOfSymbolSearch (search_targets_of rules graph) limit running [] start f after → IsPartUnresolvedOnlyAfterCandidates rules graph f
+    → IsOutcomeOfSymbolSearch (search_targets_of rules graph) limit running [] start f after → HasCandidateLeavesIfPartUnresolved rules graph f
     (leaves_of_forest f)
 part_last rules graph limit {after = after} x specifier name parts h c has y near =
     let view = (finds_named (search_targets_of rules graph) limit x).all (record { specifier = specifier; reason = no_part name; parts = parts }) h in

@@ -19,9 +19,9 @@ use Rattle.symbols_paths.specs.PathTrees.{QualifiedNameParts, LinkHead, PathFore
 use Rattle.symbols_paths.specs.Views.{definition_by_specifier, unresolved_entry_view, path_leaf_of_end, module_of_end, path_by_specifier, paths_by_specifier}
 use Rattle.symbols_paths.specs.Views.{AreModulesStored}
 use Rattle.symbols_paths.specs.inner.ReplacedDefinitions.{definitions_of_forest}
-use Rattle.symbols_paths.specs.inner.PathBuilders.{remaining_parts, link_heads_with_parts, link_heads_of_segment, link_heads_of_segments}
-use Rattle.symbols_paths.specs.inner.PathBuilders.{forest_below_links, built_path, built_paths}
-use Rattle.symbols_paths.specs.inner.PathBuilders.{modules_of_segment, modules_of_segments, modules_of_builder, modules_of_builders}
+use Rattle.symbols_paths.specs.inner.PathBuilders.{remaining_parts, link_heads_with_parts_replaced, reversed_link_heads_of_segment}
+use Rattle.symbols_paths.specs.inner.PathBuilders.{reversed_link_heads_of_segments, forest_below_reversed_links, built_path, built_paths, modules_of_segment}
+use Rattle.symbols_paths.specs.inner.PathBuilders.{modules_of_segments, modules_of_builder, modules_of_builders}
 use Rattle.symbols_paths.proofs.Leaves.{leaves_of_forest-join}
 use Rattle.symbols_paths.proofs.NamedPathLemmas.{stored_both}
 use Rattle.symbols_paths.proofs.LoopInvariants.{join_assoc}
@@ -34,10 +34,10 @@ use Rattle.symbols_paths.proofs.DropOrder.{popped_first, put_first}
 -- ---- lists that are joined
 
 pub heads_join : (root : RootView) (xs ys : List Segment)
-    → link_heads_of_segments root (xs ++ ys) ≡ link_heads_of_segments root xs ++ link_heads_of_segments root ys
+    → reversed_link_heads_of_segments root (xs ++ ys) ≡ reversed_link_heads_of_segments root xs ++ reversed_link_heads_of_segments root ys
 heads_join root [] ys = refl
-heads_join root (x ∷ xs) ys = ap (λ z. link_heads_of_segment root x ++ z) (heads_join root xs ys)
-    ∙ sym (append_assoc (link_heads_of_segment root x) (link_heads_of_segments root xs) (link_heads_of_segments root ys))
+heads_join root (x ∷ xs) ys = ap (λ z. reversed_link_heads_of_segment root x ++ z) (heads_join root xs ys)
+    ∙ sym (append_assoc (reversed_link_heads_of_segment root x) (reversed_link_heads_of_segments root xs) (reversed_link_heads_of_segments root ys))
 
 pub segments_join : (xs ys : List Segment) → modules_of_segments (xs ++ ys) ≡ modules_of_segments xs ++ modules_of_segments ys
 segments_join [] ys = refl
@@ -60,16 +60,16 @@ pub laid_under : {ps : QualifiedNameParts} {now next : List DefinitionPathNode} 
     (x : Segment) → x ≡ segment.WithParts parts inner → AreLaid (Some ps) now (x ∷ rest) all next → AreLaid (Some ps) now (inner.items ++ rest) all next
 laid_under {ps = ps} {now = now} {rest = rest} parts inner x x_is is = record {
   view = λ root.
-      let heads = link_heads_of_segments root inner.items in
-      let following = link_heads_of_segments root rest in
-      let same : link_heads_with_parts ps (link_heads_of_segment root x) ≡ link_heads_with_parts ps heads =
-      ap (λ s. link_heads_with_parts ps (link_heads_of_segment root s)) x_is
-      ∙ (ap (link_heads_with_parts ps) (heads_of_under root parts inner) ∙ under_twice ps (remaining_parts parts) heads) in
-      ap (λ hs. forest_below_links hs (paths_by_specifier root now))
-      (ap (link_heads_with_parts ps) (heads_join root inner.items rest)
+      let heads = reversed_link_heads_of_segments root inner.items in
+      let following = reversed_link_heads_of_segments root rest in
+      let same : link_heads_with_parts_replaced ps (reversed_link_heads_of_segment root x) ≡ link_heads_with_parts_replaced ps heads =
+      ap (λ s. link_heads_with_parts_replaced ps (reversed_link_heads_of_segment root s)) x_is
+      ∙ (ap (link_heads_with_parts_replaced ps) (heads_of_under root parts inner) ∙ under_twice ps (remaining_parts parts) heads) in
+      ap (λ hs. forest_below_reversed_links hs (paths_by_specifier root now))
+      (ap (link_heads_with_parts_replaced ps) (heads_join root inner.items rest)
       ∙ (heads_as_on (Some ps) heads following
-      ∙ (ap (λ hs. hs ++ link_heads_with_parts ps following) (sym same)
-      ∙ sym (heads_as_on (Some ps) (link_heads_of_segment root x) following))))
+      ∙ (ap (λ hs. hs ++ link_heads_with_parts_replaced ps following) (sym same)
+      ∙ sym (heads_as_on (Some ps) (reversed_link_heads_of_segment root x) following))))
       ∙ is.view root;
   stored = λ root a b.
       let h = is.stored root a b in (
@@ -83,7 +83,7 @@ laid_under {ps = ps} {now = now} {rest = rest} parts inner x x_is is = record {
 
 -- what is read of paths from left to right, whatever links are in front of them
 opened_fork : {X : Type 0} (read : PathForest → List X) → ((f g : PathForest) → read (joined_forests f g) ≡ read f ++ read g)
-    → ((heads : List LinkHead) (f : PathForest) → read (forest_below_links heads f) ≡ read f) → (root : RootView) (xs : Vec Segment Global)
+    → ((heads : List LinkHead) (f : PathForest) → read (forest_below_reversed_links heads f) ≡ read f) → (root : RootView) (xs : Vec Segment Global)
     (branches : Vec PathBuilder Global) (last : Box PathBuilder Global) (rest : List PathBuilder)
     → read (built_paths root (branches.items ++ last.value ∷ rest)) ≡ read (built_paths root (builder.Fork xs branches last ∷ rest))
 opened_fork read join linked root xs branches last rest =
@@ -93,7 +93,7 @@ opened_fork read join linked root xs branches last rest =
     ap read (built_join root branches.items (last.value ∷ rest))
     ∙ (ap read (sym (join_assoc a b c))
     ∙ (join (joined_forests a b) c
-    ∙ (ap (λ ys. ys ++ read c) (sym (linked (link_heads_of_segments root xs.items) (joined_forests a b)))
+    ∙ (ap (λ ys. ys ++ read c) (sym (linked (reversed_link_heads_of_segments root xs.items) (joined_forests a b)))
     ∙ (ap (λ f. read f ++ read c) (sym (named_fork root xs branches last))
     ∙ sym (join (built_path root (builder.Fork xs branches last)) c)))))
 

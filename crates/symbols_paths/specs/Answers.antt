@@ -15,13 +15,13 @@ use Rattle.symbols_paths.specs.PathTrees.{SymbolBySpecifier, QualifiedNameParts,
 use Rattle.symbols_paths.specs.PartTargets.{search_targets_of}
 use Rattle.symbols_paths.specs.Derived.{IsForestByAnyCandidates, IsForestWithPartsByAnyCandidates}
 use Rattle.symbols_paths.specs.FirstReach.{IsLeafOfSymbol, IsLeafWithParts, IsLeafByFirstCandidatesNoAlias, IsLeafWithAnyPartsResolved}
-use Rattle.symbols_paths.specs.FirstReach.{IsPartUnresolvedOnlyAfterCandidates}
+use Rattle.symbols_paths.specs.FirstReach.{HasCandidateLeavesIfPartUnresolved}
 use Rattle.symbols_paths.specs.AliasSearches.{IsLeafByFirstCandidatesOrAlias, IsLeafByFirstCandidatesWithParts, HasNoAliasCycle}
 use Rattle.symbols_paths.specs.AliasSearches.{HasUniqueRemainingPartsInEachSearch}
 use Rattle.symbols_paths.specs.AliasSearches.{HasUniqueRemainingPartsInMainSearch, ReachesNoAlias}
 use Rattle.symbols_paths.specs.Choice.{IsForestFoundBySearch, IsForestFoundBySearchWithParts}
 use Rattle.symbols_paths.specs.Views.{symbol_by_specifier, paths_by_specifier, modules_of_paths, AreModulesStored}
-use Rattle.symbols_paths.specs.NeededModules.{IsFaultOfStoringNeededModule}
+use Rattle.symbols_paths.specs.NeededModules.{IsFaultOfStoringNeededBySearch}
 
 -- the paths of a symbol under parts. `is_forest_by_any_candidates`: the list can be derived. `has_only_leaves_of_symbol`: each leaf is one
 -- of the symbol's under the parts. `has_first_candidate_leaves`: a leaf of first reach is in the list, as the leaf it comes to under the
@@ -50,7 +50,7 @@ pub record AreDefinitionPaths (rules : Rules) (graph : GraphView) (s : SymbolByS
   pub has_only_leaves_of_symbol : (x : PathLeaf) → Contains (leaves_of_forest paths) x → IsLeafOfSymbol (search_targets_of rules graph) s x
   pub has_first_candidate_leaves : (x : PathLeaf) → IsLeafByFirstCandidatesNoAlias (search_targets_of rules graph) s x → Contains (leaves_of_forest paths) x
   pub has_no_duplicates : ReachesNoAlias (search_targets_of rules graph) s [] → HasDistinctDefinitions (leaves_of_forest paths)
-  pub unresolved_parts_come_last : IsPartUnresolvedOnlyAfterCandidates rules graph paths (leaves_of_forest paths)
+  pub unresolved_parts_come_last : HasCandidateLeavesIfPartUnresolved rules graph paths (leaves_of_forest paths)
   pub loses_no_leaf : HasNoAliasCycle (search_targets_of rules graph) s [] → HasUniqueRemainingPartsInEachSearch (search_targets_of rules graph) s [] →
       (x : PathLeaf)
       → IsLeafByFirstCandidatesOrAlias (search_targets_of rules graph) s x
@@ -81,13 +81,13 @@ pub record IsFindDefinitionPathsResult (old new : RootView) (module_id : ModuleI
   pub stored : AreModulesStored new (modules_of_paths paths)
 
 -- a fault: no module with this id is stored, and the root is unchanged
-pub record IsUnknownModuleOfSymbol (old new : RootView) (module_id : ModuleId) (fault : SymbolsFault) : Type 0 where
+pub record IsUnknownModuleFaultOfSymbol (old new : RootView) (module_id : ModuleId) (fault : SymbolsFault) : Type 0 where
   pub unknown : length old.stored ≤ module_id.0
   pub fault_is : fault ≡ UnknownModule
   pub unchanged : new ≡ old
 
 -- a fault: the module has no such symbol, and the root is unchanged
-pub record IsUnknownSymbol (old new : RootView) (module_id : ModuleId) (s : SymbolId) (fault : SymbolsFault) : Type 0 where
+pub record IsUnknownSymbolFault (old new : RootView) (module_id : ModuleId) (s : SymbolId) (fault : SymbolsFault) : Type 0 where
   pub known : module_id.0 < length old.stored
   pub unknown : symbol_in_root old module_id s ≡ None
   pub fault_is : fault ≡ UnknownSymbol
@@ -97,9 +97,9 @@ pub record IsUnknownSymbol (old new : RootView) (module_id : ModuleId) (s : Symb
 pub record IsFaultOfSearchForPaths (old new : RootView) (module_id : ModuleId) (s : SymbolId) (fault : SymbolsFault) : Type 0 where
   pub known : module_id.0 < length old.stored
   pub has_symbol : symbol_in_root old module_id s ≢ None
-  pub refused : IsFaultOfStoringNeededModule new (specifier_in old module_id) fault
+  pub refused : IsFaultOfStoringNeededBySearch new (specifier_in old module_id) fault
 
 -- the faults of a call
 abbrev pub IsFindDefinitionPathsFault : RootView → RootView → ModuleId → SymbolId → SymbolsFault → Type 0
 IsFindDefinitionPathsFault old new module_id s fault =
-    IsUnknownModuleOfSymbol old new module_id fault ⊎ IsUnknownSymbol old new module_id s fault ⊎ IsFaultOfSearchForPaths old new module_id s fault
+    IsUnknownModuleFaultOfSymbol old new module_id fault ⊎ IsUnknownSymbolFault old new module_id s fault ⊎ IsFaultOfSearchForPaths old new module_id s fault

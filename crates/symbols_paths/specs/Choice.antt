@@ -6,12 +6,12 @@ use Rattle.std.specs.Str.{bytes_eq}
 use Rattle.symbols_ast.specs.declared.tree.arena.SourceRange.{SourceRange}
 use Rattle.symbols_table.specs.DeclViews.{FileDepView}
 use Rattle.symbols_paths.specs.PathTrees.{SymbolBySpecifier, DeclBySpecifier, QualifiedNameParts, DefinitionView, UnresolvedEntry, definition, unresolved}
-use Rattle.symbols_paths.specs.PathTrees.{LinkHead}
-use Rattle.symbols_paths.specs.PathTrees.{PathTree, PathForest, leaf, link, no_trees, more_trees, forest_of_tree, joined_forests, link_unless_empty}
+use Rattle.symbols_paths.specs.PathTrees.{LinkHead, PathTree, PathForest, leaf, link, no_trees, more_trees, forest_of_tree, joined_forests}
+use Rattle.symbols_paths.specs.PathTrees.{forest_below_link_unless_empty}
 use Rattle.symbols_paths.specs.DeclTargets.{ForwardTarget, DeclTargetView, defines, forwards, alias}
 use Rattle.symbols_paths.specs.PartTargets.{part_is_symbol, itself, part_is_unresolved, SearchTargets}
 use Rattle.symbols_paths.specs.Derived.{definition_of_decl, link_head_of_forward, decl_of_symbol_at_index, alias_link_head, part_link_head}
-use Rattle.symbols_paths.specs.Derived.{link_head_with_parts}
+use Rattle.symbols_paths.specs.Derived.{link_head_with_parts_replaced}
 
 abbrev pub is_same_symbol : SymbolBySpecifier → SymbolBySpecifier → Bool
 is_same_symbol s t = bytes_eq s.specifier t.specifier && nat_eq s.number.0 t.number.0
@@ -69,7 +69,7 @@ mutual
     decl_forwards : {running : List DeclBySpecifier} {visited after : List SymbolBySpecifier} {s : SymbolBySpecifier} {i : ℕ} {forward : ForwardTarget}
         {f : PathForest}
         → IsOutcomeOfCandidateSearch routes limit running visited forward.candidates forward.otherwise f after
-        → IsOutcomeOfDeclSearch routes limit running visited s i (forwards forward) (link_unless_empty (link_head_of_forward s i forward) f) after
+        → IsOutcomeOfDeclSearch routes limit running visited s i (forwards forward) (forest_below_link_unless_empty (link_head_of_forward s i forward) f) after
     -- an alias that is being resolved has no path; any other is resolved by a search with visited symbols of its own
     by_alias_being_resolved : {running : List DeclBySpecifier} {visited : List SymbolBySpecifier} {s t : SymbolBySpecifier} {i : ℕ} {ps : QualifiedNameParts}
         → is_alias_being_resolved running (decl_of_symbol_at_index s i) ≡ true
@@ -78,7 +78,8 @@ mutual
         {f : PathForest}
         → is_alias_being_resolved running (decl_of_symbol_at_index s i) ≡ false → length running < limit → length after ≤ limit
         → IsOutcomeOfSearchWithParts routes limit (running ++ decl_of_symbol_at_index s i
-        ∷ []) [] t ps f after → IsOutcomeOfDeclSearch routes limit running visited s i (alias t ps) (link_unless_empty (alias_link_head s i ps) f) visited
+        ∷ []) [] t ps f after → IsOutcomeOfDeclSearch routes limit running visited s i (alias t ps) (forest_below_link_unless_empty (alias_link_head s i ps) f)
+        visited
 
   -- the paths of the first candidate that has any, else the unresolved entry
   pub data IsOutcomeOfCandidateSearch (routes : SearchTargets) (limit : ℕ) : List DeclBySpecifier → List SymbolBySpecifier → List SymbolBySpecifier
@@ -132,11 +133,12 @@ mutual
         {head : LinkHead}
         {f g : PathForest}
         → IsOutcomeOfPartsInForest routes limit running visited p ps f g after
-        → IsOutcomeOfPartsInTree routes limit running visited p ps (link head f) (link_unless_empty (link_head_with_parts head (p ∷ ps)) g) after
+        → IsOutcomeOfPartsInTree routes limit running visited p ps (link head f)
+        (forest_below_link_unless_empty (link_head_with_parts_replaced head (p ∷ ps)) g) after
     definition_has_part : {running : List DeclBySpecifier} {visited after : List SymbolBySpecifier} {p : List ℕ} {ps : QualifiedNameParts} {x : DefinitionView}
         {t : SymbolBySpecifier} {f : PathForest}
         → routes.part x p ps ≡ part_is_symbol t → IsOutcomeOfSearchWithParts routes limit running visited t ps f after
-        → IsOutcomeOfPartsInTree routes limit running visited p ps (leaf (definition x)) (link_unless_empty (part_link_head x (p ∷ ps)) f) after
+        → IsOutcomeOfPartsInTree routes limit running visited p ps (leaf (definition x)) (forest_below_link_unless_empty (part_link_head x (p ∷ ps)) f) after
     definition_is_part_itself : {running : List DeclBySpecifier} {visited : List SymbolBySpecifier} {p : List ℕ} {ps : QualifiedNameParts} {x : DefinitionView}
         → routes.part x p ps ≡ itself
         → IsOutcomeOfPartsInTree routes limit running visited p ps (leaf (definition x)) (forest_of_tree (leaf (definition x))) visited

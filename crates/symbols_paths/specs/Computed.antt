@@ -4,11 +4,11 @@ use Rattle.symbols_ast.specs.Graph.{GraphView}
 use Rattle.symbols_root.specs.declared.rules.Rules.{Rules}
 use Rattle.symbols_paths.specs.PathTrees.{SymbolBySpecifier, DeclBySpecifier, QualifiedNameParts, DefinitionView, UnresolvedEntry, definition, unresolved}
 use Rattle.symbols_paths.specs.PathTrees.{PathTree}
-use Rattle.symbols_paths.specs.PathTrees.{PathForest, leaf, link, no_trees, more_trees, forest_of_tree, joined_forests, link_unless_empty}
+use Rattle.symbols_paths.specs.PathTrees.{PathForest, leaf, link, no_trees, more_trees, forest_of_tree, joined_forests, forest_below_link_unless_empty}
 use Rattle.symbols_paths.specs.DeclTargets.{DeclTargetView, defines, forwards, alias}
 use Rattle.symbols_paths.specs.PartTargets.{PartTargetView, part_is_symbol, itself, part_is_unresolved, SearchTargets, search_targets_of}
 use Rattle.symbols_paths.specs.Derived.{decl_of_symbol_at_index, definition_of_decl, link_head_of_forward, alias_link_head, part_link_head}
-use Rattle.symbols_paths.specs.Derived.{link_head_with_parts}
+use Rattle.symbols_paths.specs.Derived.{link_head_with_parts_replaced}
 use Rattle.symbols_paths.specs.Choice.{is_visited, is_alias_being_resolved, forest_of_unresolved}
 
 -- the paths, and the symbols visited after the search
@@ -39,11 +39,11 @@ search_decl_target resolve search visited s i (defines range star) =
     record { paths = forest_of_tree (leaf (definition (definition_of_decl s i range star))); visited = visited }
 search_decl_target resolve search visited s i (forwards forward) =
     record {
-      paths = link_unless_empty (link_head_of_forward s i forward) (search_candidates search visited forward.candidates forward.otherwise).paths;
+      paths = forest_below_link_unless_empty (link_head_of_forward s i forward) (search_candidates search visited forward.candidates forward.otherwise).paths;
       visited = (search_candidates search visited forward.candidates forward.otherwise).visited;
     }
 search_decl_target resolve search visited s i (alias t ps) =
-    record { paths = link_unless_empty (alias_link_head s i ps) (resolve (decl_of_symbol_at_index s i) t ps); visited = visited }
+    record { paths = forest_below_link_unless_empty (alias_link_head s i ps) (resolve (decl_of_symbol_at_index s i) t ps); visited = visited }
 
 -- the paths of the declarations, in order
 abbrev pub search_decl_targets : AliasSearch → SymbolSearch → List SymbolBySpecifier → SymbolBySpecifier → ℕ → List DeclTargetView → SearchResult
@@ -62,7 +62,7 @@ search_symbol_to_depth routes resolve (suc depth) visited s = if is_visited visi
 -- the replacement of a definition
 abbrev pub search_part_target : SymbolSearch → List SymbolBySpecifier → DefinitionView → QualifiedNameParts → PartTargetView → SearchResult
 search_part_target walk visited x ps (part_is_symbol t) =
-    record { paths = link_unless_empty (part_link_head x ps) (walk visited t).paths; visited = (walk visited t).visited }
+    record { paths = forest_below_link_unless_empty (part_link_head x ps) (walk visited t).paths; visited = (walk visited t).visited }
 search_part_target walk visited x ps itself = record { paths = forest_of_tree (leaf (definition x)); visited = visited }
 search_part_target walk visited x ps (part_is_unresolved m) =
     record { paths = forest_of_tree (link (part_link_head x ps) (forest_of_tree (leaf (unresolved m)))); visited = visited }
@@ -74,7 +74,7 @@ abbrev mutual
   resolve_parts_in_tree routes walk p ps (leaf (definition x)) visited = search_part_target walk visited x (p ∷ ps) (routes.part x p ps)
   resolve_parts_in_tree routes walk p ps (link head next) visited =
       let next_changed = resolve_parts_in_forest routes walk p ps next visited in
-      record { paths = link_unless_empty (link_head_with_parts head (p ∷ ps)) next_changed.paths; visited = next_changed.visited }
+      record { paths = forest_below_link_unless_empty (link_head_with_parts_replaced head (p ∷ ps)) next_changed.paths; visited = next_changed.visited }
 
   pub resolve_parts_in_forest : SearchTargets → SymbolSearch → List ℕ → QualifiedNameParts → PathForest → List SymbolBySpecifier → SearchResult
   resolve_parts_in_forest routes walk p ps no_trees visited = record { paths = no_trees; visited = visited }

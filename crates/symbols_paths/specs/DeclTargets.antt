@@ -14,7 +14,7 @@ use Rattle.symbols_table.specs.SymbolViews.{SymbolView, symbol_after_changes}
 use Rattle.symbols_table.specs.Events.{default_export_name}
 use Rattle.symbols_root.specs.declared.rules.Rules.{Rules}
 use Rattle.symbols_root.specs.declared.rules.Rules.TheVariants.{Deno, Strict}
-use Rattle.symbols_root.specs.GraphModules.{changes_of_module}
+use Rattle.symbols_root.specs.GraphModules.{table_changes_of_module}
 use Rattle.symbols_exports.specs.Exports.{ExportEntry}
 use Rattle.symbols_exports.specs.OneName.{find_export}
 use Rattle.symbols_exports.specs.StarStatements.{resolve_specifier, star_targets_of, explicit_exports_of}
@@ -44,20 +44,20 @@ abbrev pub IsTargetOfNthDecl : DeclTargets → SymbolBySpecifier → ℕ → Dec
 IsTargetOfNthDecl table s i decl_target = slice_get (table s) i ≡ Some decl_target
 
 -- forwards to no candidate and no unresolved entry: no path
-abbrev pub forward_to_nothing : SymbolBySpecifier → ForwardTarget
-forward_to_nothing s = record { symbol = s; parts = []; candidates = []; otherwise = None }
+abbrev pub forward_target_to_nothing : SymbolBySpecifier → ForwardTarget
+forward_target_to_nothing s = record { symbol = s; parts = []; candidates = []; otherwise = None }
 
 -- forwards to an unresolved entry alone
-abbrev pub forward_to_unresolved : SymbolBySpecifier → QualifiedNameParts → UnresolvedEntry → ForwardTarget
-forward_to_unresolved s parts missing = record { symbol = s; parts = parts; candidates = []; otherwise = Some missing }
+abbrev pub forward_target_to_unresolved : SymbolBySpecifier → QualifiedNameParts → UnresolvedEntry → ForwardTarget
+forward_target_to_unresolved s parts missing = record { symbol = s; parts = parts; candidates = []; otherwise = Some missing }
 
 -- forwards to the one candidate that a module exports locally
-abbrev pub forward_to_export : SymbolBySpecifier → SymbolBySpecifier → ForwardTarget
-forward_to_export s explicit = record { symbol = s; parts = []; candidates = explicit ∷ []; otherwise = None }
+abbrev pub forward_target_to_export : SymbolBySpecifier → SymbolBySpecifier → ForwardTarget
+forward_target_to_export s explicit = record { symbol = s; parts = []; candidates = explicit ∷ []; otherwise = None }
 
 -- the symbol of a name in the module of this specifier
 abbrev pub symbol_of_id : GraphView → List ℕ → IdView → Option SymbolId
-symbol_of_id graph specifier id = symbol_of_ident_after_changes (changes_of_module graph specifier) id
+symbol_of_id graph specifier id = symbol_of_ident_after_changes (table_changes_of_module graph specifier) id
 
 -- the symbol that a module exports locally under a name
 abbrev pub explicit_export : GraphView → List ℕ → List ℕ → Option SymbolId
@@ -84,9 +84,9 @@ re_exported_symbols_by_rules rules graph specifier name = if searches_stars_for 
 
 -- a named import from a module: forwards to the module's local export of the name. Without one it forwards to the candidates along the
 -- module's `export *` statements, and to an unresolved part if none of them has a path
-abbrev pub forward_into_module : Rules → GraphView → SymbolBySpecifier → List ℕ → List ℕ → Option SymbolId → ForwardTarget
-forward_into_module rules graph s name specifier (Some explicit) = forward_to_export s (record { specifier = specifier; number = explicit })
-forward_into_module rules graph s name specifier None = record {
+abbrev pub forward_target_into_module : Rules → GraphView → SymbolBySpecifier → List ℕ → List ℕ → Option SymbolId → ForwardTarget
+forward_target_into_module rules graph s name specifier (Some explicit) = forward_target_to_export s (record { specifier = specifier; number = explicit })
+forward_target_into_module rules graph s name specifier None = record {
   symbol = s;
   parts = [];
   candidates = re_exported_symbols_by_rules rules graph specifier name;
@@ -94,15 +94,16 @@ forward_into_module rules graph s name specifier None = record {
 }
 
 -- a named import: forwards into the module of its specifier, or to an unresolved specifier
-abbrev pub forward_of_import : Rules → GraphView → SymbolBySpecifier → List ℕ → List ℕ → Option (List ℕ) → ForwardTarget
-forward_of_import rules graph s name specifier_text None =
-    forward_to_unresolved s [] (record { specifier = s.specifier; reason = no_module specifier_text; parts = [] })
-forward_of_import rules graph s name specifier_text (Some specifier) = forward_into_module rules graph s name specifier (explicit_export graph specifier name)
+abbrev pub forward_target_of_import : Rules → GraphView → SymbolBySpecifier → List ℕ → List ℕ → Option (List ℕ) → ForwardTarget
+forward_target_of_import rules graph s name specifier_text None =
+    forward_target_to_unresolved s [] (record { specifier = s.specifier; reason = no_module specifier_text; parts = [] })
+forward_target_of_import rules graph s name specifier_text (Some specifier) = forward_target_into_module rules graph s name specifier
+    (explicit_export graph specifier name)
 
 -- another name of the module: forwards to its symbol, which the link has as its symbol too
-abbrev pub forward_within_module : SymbolBySpecifier → Option SymbolId → ForwardTarget
-forward_within_module s None = forward_to_nothing s
-forward_within_module s (Some t) = record {
+abbrev pub forward_target_within_module : SymbolBySpecifier → Option SymbolId → ForwardTarget
+forward_target_within_module s None = forward_target_to_nothing s
+forward_target_within_module s (Some t) = record {
   symbol = record { specifier = s.specifier; number = t };
   parts = [];
   candidates = record { specifier = s.specifier; number = t } ∷ [];
@@ -111,7 +112,7 @@ forward_within_module s (Some t) = record {
 
 -- a qualified name: an alias of the first name's symbol, or an unresolved entry if that name has no symbol
 abbrev pub alias_target : SymbolBySpecifier → IdView → QualifiedNameParts → Option SymbolId → DeclTargetView
-alias_target s id parts None = forwards (forward_to_unresolved s parts (record { specifier = s.specifier; reason = no_symbol id; parts = parts }))
+alias_target s id parts None = forwards (forward_target_to_unresolved s parts (record { specifier = s.specifier; reason = no_symbol id; parts = parts }))
 alias_target s id parts (Some t) = alias (record { specifier = s.specifier; number = t }) parts
 
 -- the target of a declaration of this kind and range, of symbol `s`
@@ -119,13 +120,13 @@ abbrev pub target_of_decl : Rules → GraphView → SymbolBySpecifier → Source
 target_of_decl rules graph s range (definition _) = defines range None
 target_of_decl rules graph s range (file_ref all_names specifier_text) = defines range (Some (record { name = all_names; specifier = specifier_text }))
 target_of_decl rules graph s range (file_ref (one_name name) specifier_text) =
-    forwards (forward_of_import rules graph s name specifier_text (resolve_specifier graph s.specifier specifier_text))
-target_of_decl rules graph s range (target id) = forwards (forward_within_module s (symbol_of_id graph s.specifier id))
+    forwards (forward_target_of_import rules graph s name specifier_text (resolve_specifier graph s.specifier specifier_text))
+target_of_decl rules graph s range (target id) = forwards (forward_target_within_module s (symbol_of_id graph s.specifier id))
 target_of_decl rules graph s range (qualified_target id parts) = alias_target s id parts (symbol_of_id graph s.specifier id)
 
 -- the declarations of a symbol; none if the module has no such symbol
 abbrev pub declarations_of : GraphView → SymbolBySpecifier → List Declaration
-declarations_of graph s = option_map_or (λ (symbol : SymbolView). symbol.decls) (symbol_after_changes (changes_of_module graph s.specifier) s.number) []
+declarations_of graph s = option_map_or (λ (symbol : SymbolView). symbol.decls) (symbol_after_changes (table_changes_of_module graph s.specifier) s.number) []
 
 abbrev pub decl_targets_of : Rules → GraphView → DeclTargets
 decl_targets_of rules graph s = map (λ (decl : Declaration). target_of_decl rules graph s decl.range decl.kind) (declarations_of graph s)

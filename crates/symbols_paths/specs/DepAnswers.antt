@@ -109,7 +109,7 @@ abbrev pub IsFaultOfStoringForReference : RootView → List ℕ → SymbolRefere
 IsFaultOfStoringForReference root specifier reference fault = IsFaultOfStoringOneOf root (IsNeededByReference root.rules root.graph specifier reference) fault
 
 -- a fault: no module with this id is stored, and the root is unchanged
-pub record IsUnknownModuleOfReference (old new : RootView) (module_id : ModuleId) (fault : SymbolsFault) : Type 0 where
+pub record IsUnknownModuleFaultOfReference (old new : RootView) (module_id : ModuleId) (fault : SymbolsFault) : Type 0 where
   pub unknown : length old.stored ≤ module_id.0
   pub fault_is : fault ≡ UnknownModule
   pub unchanged : new ≡ old
@@ -117,5 +117,5 @@ pub record IsUnknownModuleOfReference (old new : RootView) (module_id : ModuleId
 -- the faults of a call
 abbrev pub IsResolveSymbolDepFault : RootView → RootView → ModuleId → SymbolReference → SymbolsFault → Type 0
 IsResolveSymbolDepFault old new module_id reference fault =
-    IsUnknownModuleOfReference old new module_id fault ⊎ ((module_id.0 < length old.stored) × IsFaultOfStoringForReference new
+    IsUnknownModuleFaultOfReference old new module_id fault ⊎ ((module_id.0 < length old.stored) × IsFaultOfStoringForReference new
     (specifier_in old module_id) reference fault)

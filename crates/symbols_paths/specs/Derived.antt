@@ -27,8 +27,8 @@ abbrev pub part_link_head : DefinitionView → QualifiedNameParts → LinkHead
 part_link_head x ps = record { symbol = x.decl.symbol; decl = x.decl; parts = ps }
 
 -- the same link, with these parts instead of its own
-abbrev pub link_head_with_parts : LinkHead → QualifiedNameParts → LinkHead
-link_head_with_parts head ps = record { symbol = head.symbol; decl = head.decl; parts = ps }
+abbrev pub link_head_with_parts_replaced : LinkHead → QualifiedNameParts → LinkHead
+link_head_with_parts_replaced head ps = record { symbol = head.symbol; decl = head.decl; parts = ps }
 
 mutual
   -- at most one path for each declaration, in order from the index on
@@ -81,7 +81,7 @@ mutual
         (leaf (unresolved m))
     link_gets_parts : {p : List ℕ} {ps : QualifiedNameParts} {head : LinkHead} {f g : PathForest} {x : PathTree}
         → IsForestWithPartsResolved routes p ps f (more_trees x g)
-        → IsTreeWithPartsResolved routes p ps (link head f) (link (link_head_with_parts head (p ∷ ps)) (more_trees x g))
+        → IsTreeWithPartsResolved routes p ps (link head f) (link (link_head_with_parts_replaced head (p ∷ ps)) (more_trees x g))
     via_next_symbol : {p : List ℕ} {ps : QualifiedNameParts} {y : DefinitionView} {t : SymbolBySpecifier} {x : PathTree} {g : PathForest} → routes.part y p ps
         ≡ part_is_symbol t
         → IsForestWithPartsByAnyCandidates routes t ps (more_trees x g)

@@ -115,8 +115,8 @@ abbrev mutual
 
 -- an unresolved part of a module, unless after the link of an alias, occurs in `paths` only if `xs` has the leaves of first reach of all
 -- candidates along its `export *` statements
-abbrev pub IsPartUnresolvedOnlyAfterCandidates : Rules → GraphView → PathForest → List PathLeaf → Type 0
-IsPartUnresolvedOnlyAfterCandidates rules graph paths xs =
+abbrev pub HasCandidateLeavesIfPartUnresolved : Rules → GraphView → PathForest → List PathLeaf → Type 0
+HasCandidateLeavesIfPartUnresolved rules graph paths xs =
     (specifier name : List ℕ) (parts : QualifiedNameParts)
     → Contains (leaves_outside_aliases (decl_targets_of rules graph) paths)
     (unresolved (record { specifier = specifier; reason = no_part name; parts = parts })) →

@@ -72,8 +72,8 @@ pub record IsFaultOfStoringOneOf (root : RootView) (these : List ℕ → Type 0)
   pub refused : IsStoringFault root needed fault
 
 -- the fault of storing a module needed from `start`, or of a failed allocation
-abbrev pub IsFaultOfStoringNeededModule : RootView → List ℕ → SymbolsFault → Type 0
-IsFaultOfStoringNeededModule root start fault = IsFaultOfStoringOneOf root (IsModuleNeededBySearch root.rules root.graph start []) fault
+abbrev pub IsFaultOfStoringNeededBySearch : RootView → List ℕ → SymbolsFault → Type 0
+IsFaultOfStoringNeededBySearch root start fault = IsFaultOfStoringOneOf root (IsModuleNeededBySearch root.rules root.graph start []) fault
 
 -- a call stores no module but these: each that is stored after it was stored before, or is one of them
 pub record AreNewlyStoredAmong (old new : RootView) (these : List ℕ → Type 0) : Type 0 where

@@ -5,12 +5,12 @@ use Rattle.std.specs.Option.{option_map_or}
 use Rattle.std.specs.Str.{bytes_eq}
 use Rattle.symbols_ast.specs.declared.ids.SymbolId.{SymbolId}
 use Rattle.symbols_ast.specs.Graph.{GraphView}
-use Rattle.symbols_nodes.specs.NodeTests.{is_class}
+use Rattle.symbols_nodes.specs.NodeTests.{is_class_exported_or_not}
 use Rattle.symbols_table.specs.DeclViews.{FileDepView, decl_node_satisfies}
 use Rattle.symbols_table.specs.SymbolViews.{SymbolView, symbol_after_changes}
 use Rattle.symbols_root.specs.declared.rules.Rules.{Rules}
 use Rattle.symbols_root.specs.Roots.{RootView}
-use Rattle.symbols_root.specs.GraphModules.{changes_of_module}
+use Rattle.symbols_root.specs.GraphModules.{table_changes_of_module}
 use Rattle.symbols_exports.specs.Exports.{ExportEntry}
 use Rattle.symbols_exports.specs.OneName.{find_export}
 use Rattle.symbols_exports.specs.StarStatements.{resolve_specifier}
@@ -35,10 +35,10 @@ pub record SearchTargets : Type 0 where
 -- the symbol that a symbol exports under a name
 abbrev pub export_of_symbol : GraphView → SymbolBySpecifier → List ℕ → Option SymbolId
 export_of_symbol graph s name = lookup (λ key. bytes_eq name key)
-    (option_map_or (λ (symbol : SymbolView). symbol.exports) (symbol_after_changes (changes_of_module graph s.specifier) s.number) [])
+    (option_map_or (λ (symbol : SymbolView). symbol.exports) (symbol_after_changes (table_changes_of_module graph s.specifier) s.number) [])
 
 abbrev pub is_class_decl_at : GraphView → DeclBySpecifier → Bool
-is_class_decl_at graph decl = option_map_or (decl_node_satisfies is_class) (slice_get (declarations_of graph decl.symbol) decl.index) false
+is_class_decl_at graph decl = option_map_or (decl_node_satisfies is_class_exported_or_not) (slice_get (declarations_of graph decl.symbol) decl.index) false
 
 abbrev pub prototype_name : List ℕ
 prototype_name = codes "prototype"

@@ -67,9 +67,9 @@ joined_forests no_trees g = g
 joined_forests (more_trees t f) g = more_trees t (joined_forests f g)
 
 -- a link in front of paths; no path if there are none
-abbrev pub link_unless_empty : LinkHead → PathForest → PathForest
-link_unless_empty head no_trees = no_trees
-link_unless_empty head (more_trees t f) = forest_of_tree (link head (more_trees t f))
+abbrev pub forest_below_link_unless_empty : LinkHead → PathForest → PathForest
+forest_below_link_unless_empty head no_trees = no_trees
+forest_below_link_unless_empty head (more_trees t f) = forest_of_tree (link head (more_trees t f))
 
 -- the leaves, from left to right
 abbrev mutual

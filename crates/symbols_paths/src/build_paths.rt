@@ -4,18 +4,16 @@ ghost use Rattle.std.specs.Prelude.{◌≡◌, ◌<◌, ◌∷◌, [], length, I
 ghost use Rattle.std.specs.Option.{option_map_or};
 ghost use Rattle.symbols_root.specs.Roots.{RootView};
 ghost use Rattle.symbols_paths.specs.declared.path_builder.PathBuilder.TheVariants as builder;
-ghost use Rattle.symbols_paths.specs.PathTrees.{leaf, forest_of_tree, link_unless_empty};
-ghost use Rattle.symbols_paths.specs.Derived.{link_head_with_parts};
+ghost use Rattle.symbols_paths.specs.PathTrees.{leaf, forest_of_tree, forest_below_link_unless_empty};
+ghost use Rattle.symbols_paths.specs.Derived.{link_head_with_parts_replaced};
 ghost use Rattle.symbols_paths.specs.Views.{path_leaf_of_end, module_of_end, strings_view};
 ghost use Rattle.symbols_paths.specs.Views.{paths_by_specifier, modules_of_paths, AreModulesStored};
 ghost use Rattle.symbols_paths.specs.inner.PathBuilders.{remaining_parts, link_head_of_step};
-ghost use Rattle.symbols_paths.specs.inner.PathBuilders.{link_heads_of_segment};
-ghost use Rattle.symbols_paths.specs.inner.PathBuilders.{link_heads_of_segments};
-ghost use Rattle.symbols_paths.specs.inner.PathBuilders.{link_heads_with_parts};
-ghost use Rattle.symbols_paths.specs.inner.PathBuilders.{forest_below_links, built_path};
-ghost use Rattle.symbols_paths.specs.inner.PathBuilders.{built_paths, modules_of_segment};
-ghost use Rattle.symbols_paths.specs.inner.PathBuilders.{modules_of_segments, modules_of_builder};
-ghost use Rattle.symbols_paths.specs.inner.PathBuilders.{modules_of_builders};
+ghost use Rattle.symbols_paths.specs.inner.PathBuilders.{reversed_link_heads_of_segment};
+ghost use Rattle.symbols_paths.specs.inner.PathBuilders.{reversed_link_heads_of_segments};
+ghost use Rattle.symbols_paths.specs.inner.PathBuilders.{link_heads_with_parts_replaced, forest_below_reversed_links};
+ghost use Rattle.symbols_paths.specs.inner.PathBuilders.{built_path, built_paths, modules_of_segment};
+ghost use Rattle.symbols_paths.specs.inner.PathBuilders.{modules_of_segments, modules_of_builder, modules_of_builders};
 
 use crate::definition_iter::DefinitionOrUnresolved;
 use crate::definition_path::{DefinitionPathLink, DefinitionPathNode, DefinitionPathNodeResolved};
@@ -67,7 +65,7 @@ fn prepend_link<'a>(
     next: Vec<DefinitionPathNode<'a>>,
 ) -> Result<Vec<DefinitionPathNode<'a>>, AllocError>
     ensures view { IfOk result (λ paths. (root : RootView) → paths_by_specifier root paths.items
-        ≡ link_unless_empty (link_head_of_step root step)
+        ≡ forest_below_link_unless_empty (link_head_of_step root step)
         (paths_by_specifier root next.entry.items)) }
     ensures stored { IfOk result (λ paths. (root : RootView) → step.symbol.module_id.0
         < length root.stored → AreModulesStored root (modules_of_paths next.entry.items)
@@ -97,7 +95,7 @@ fn prepend_segments<'a>(
     next: Vec<DefinitionPathNode<'a>>,
 ) -> Result<Vec<DefinitionPathNode<'a>>, AllocError>
     ensures view { IfOk result (λ paths. (root : RootView) → paths_by_specifier root paths.items
-        ≡ forest_below_links (link_heads_of_segments root segments.items)
+        ≡ forest_below_reversed_links (reversed_link_heads_of_segments root segments.items)
         (paths_by_specifier root next.entry.items)) }
     ensures stored { IfOk result (λ paths. (root : RootView)
         → AreModulesStored root (modules_of_segments segments.items)
@@ -118,7 +116,7 @@ fn prepend_segment<'a>(
     next: Vec<DefinitionPathNode<'a>>,
 ) -> Result<Vec<DefinitionPathNode<'a>>, AllocError>
     ensures view { IfOk result (λ paths. (root : RootView) → paths_by_specifier root paths.items
-        ≡ forest_below_links (link_heads_of_segment root segment)
+        ≡ forest_below_reversed_links (reversed_link_heads_of_segment root segment)
         (paths_by_specifier root next.entry.items)) }
     ensures stored { IfOk result (λ paths. (root : RootView)
         → AreModulesStored root (modules_of_segment segment)
@@ -141,7 +139,7 @@ fn prepend_link_with_parts<'a>(
     next: Vec<DefinitionPathNode<'a>>,
 ) -> Result<Vec<DefinitionPathNode<'a>>, AllocError>
     ensures view { IfOk result (λ paths. (root : RootView) → paths_by_specifier root paths.items
-        ≡ link_unless_empty (link_head_with_parts (link_head_of_step root step)
+        ≡ forest_below_link_unless_empty (link_head_with_parts_replaced (link_head_of_step root step)
         (remaining_parts parts.now)) (paths_by_specifier root next.entry.items)) }
     ensures stored { IfOk result (λ paths. (root : RootView) → step.symbol.module_id.0
         < length root.stored → AreModulesStored root (modules_of_paths next.entry.items)
@@ -164,8 +162,8 @@ fn prepend_segments_with_parts<'a>(
     next: Vec<DefinitionPathNode<'a>>,
 ) -> Result<Vec<DefinitionPathNode<'a>>, AllocError>
     ensures view { IfOk result (λ paths. (root : RootView) → paths_by_specifier root paths.items
-        ≡ forest_below_links (link_heads_with_parts (remaining_parts parts.now)
-        (link_heads_of_segments root segments.items))
+        ≡ forest_below_reversed_links (link_heads_with_parts_replaced (remaining_parts parts.now)
+        (reversed_link_heads_of_segments root segments.items))
         (paths_by_specifier root next.entry.items)) }
     ensures stored { IfOk result (λ paths. (root : RootView)
         → AreModulesStored root (modules_of_segments segments.items)

@@ -17,7 +17,7 @@ ghost use Rattle.symbols_paths.specs.DeclTargets.{declarations_of, target_of_dec
 ghost use Rattle.symbols_paths.specs.PartTargets.{export_of_symbol, is_class_decl_at};
 ghost use Rattle.symbols_paths.specs.Views.{decl_by_specifier, strings_view};
 ghost use Rattle.symbols_paths.specs.inner.Views.{symbol_of_unique_id, first_part};
-ghost use Rattle.symbols_paths.specs.inner.SearchSteps.{decl_target_view, IsTargetImportedByDecl};
+ghost use Rattle.symbols_paths.specs.inner.SearchSteps.{decl_target_view, IsImportOrAliasTargetOfDecl};
 ghost use Rattle.symbols_paths.specs.inner.SearchSteps.{IsTargetOfDeclAtIndex};
 
 use crate::definition::{DeclRef, DefinitionKind};
@@ -73,7 +73,7 @@ fn target_of_decl<'a>(
         id)
         → decl_target_view rules graph s decl_target
         ≡ target_of_decl rules graph s (decl_view decl.now).range (decl_view decl.now).kind) }
-    ensures imports { IfOk result (λ decl_target. IsTargetImportedByDecl decl_target (decl_view decl.now)) }
+    ensures imports { IfOk result (λ decl_target. IsImportOrAliasTargetOfDecl decl_target (decl_view decl.now)) }
 {
     match &decl.kind {
         SymbolDeclKind::Definition(_) => Ok(DeclTarget::Definition(

@@ -4,13 +4,16 @@
 ghost use Rattle.std.specs.Prelude.{◌≡◌, true, false, [], IfOk, OnOk};
 ghost use Rattle.symbols_paths.specs.NeededModules.{AreNewlyStoredAmong};
 ghost use Rattle.symbols_paths.specs.inner.PathBuilders.{remaining_parts, modules_of_builders};
-ghost use Rattle.symbols_paths.specs.inner.Needed.{IsNeededFrom, KeepsOrRefuses};
-ghost use Rattle.symbols_paths.specs.inner.SearchSteps.{IsSearchReady, KeepsResolving};
-ghost use Rattle.symbols_paths.specs.inner.SearchSteps.{HasSearched, ArePathsFoundForSymbol};
+ghost use Rattle.symbols_paths.specs.inner.Needed.{IsNeededFrom, HasGrownAndFailsOnlyStoringOneOf};
+ghost use Rattle.symbols_paths.specs.inner.SearchSteps.{AreModulesStoredBeforeSearch};
+ghost use Rattle.symbols_paths.specs.inner.SearchSteps.{FailsOnlyStoringAndRestoresAliases};
+ghost use Rattle.symbols_paths.specs.inner.SearchSteps.{AreVisitedGrownAndModulesStored, ArePathsFoundForSymbol};
 ghost use Rattle.symbols_paths.specs.inner.SearchSteps.{ArePathsFoundWithParts};
-ghost use Rattle.symbols_paths.specs.inner.SearchInvariants.{SearchStart, IsNeeded, IsSearchValid};
-ghost use Rattle.symbols_paths.specs.inner.SearchInvariants.{IsStateValid, IsStateStep};
-ghost use Rattle.symbols_paths.specs.inner.SearchInvariants.{IsFoundAtLast, is_over, is_found};
+ghost use Rattle.symbols_paths.specs.inner.SearchInvariants.{SearchStart, IsNeededBySearchFromStart};
+ghost use Rattle.symbols_paths.specs.inner.SearchInvariants.{IsSearchOfNeededModules, IsStateOfNeededModules};
+ghost use Rattle.symbols_paths.specs.inner.SearchInvariants.{IsStateStepWithSameOutcomeAndLessWork};
+ghost use Rattle.symbols_paths.specs.inner.SearchInvariants.{IsFinalResultOfSearch, is_search_over};
+ghost use Rattle.symbols_paths.specs.inner.SearchInvariants.{is_step_with_found_paths};
 
 use crate::alias_decl::AliasDecl;
 use crate::follow_decl::{begin_search, follow_next_decl, try_next_star};
@@ -33,8 +36,8 @@ pub(crate) fn find_definition_paths_internal<'a>(
     visited: &mut IndexSet<UniqueSymbolId>,
     symbol: UniqueSymbolId,
 ) -> Result<Vec<PathBuilder<'a>>, SymbolsFault>
-    requires ready { IsSearchReady root.old symbol.module_id visited.old.keys resolving.old.keys }
-    ensures after_call { KeepsResolving root.old root.new
+    requires ready { AreModulesStoredBeforeSearch root.old symbol.module_id visited.old.keys resolving.old.keys }
+    ensures after_call { FailsOnlyStoringAndRestoresAliases root.old root.new
         (IsNeededFrom root.old symbol.module_id []) resolving.old.keys resolving.new.keys result }
     ensures stores { AreNewlyStoredAmong root.old root.new
         (IsNeededFrom root.old symbol.module_id []) }
@@ -42,7 +45,7 @@ pub(crate) fn find_definition_paths_internal<'a>(
         ArePathsFoundForSymbol root.new resolving.old.keys visited.old.keys symbol paths.items
         visited.new.keys) }
     ensures visits { IfOk result (λ paths.
-        HasSearched root.new visited.old.keys visited.new.keys (modules_of_builders paths.items)) }
+        AreVisitedGrownAndModulesStored root.new visited.old.keys visited.new.keys (modules_of_builders paths.items)) }
 {
     let frames = VecDeque::new(root.alloc());
     search_from(root, resolving, visited, frames, symbol)
@@ -57,8 +60,8 @@ pub(crate) fn resolve_qualified_name_internal<'a>(
     symbol: UniqueSymbolId,
     parts: &SharedParts,
 ) -> Result<Vec<PathBuilder<'a>>, SymbolsFault>
-    requires ready { IsSearchReady root.old symbol.module_id visited.old.keys resolving.old.keys }
-    ensures after_call { KeepsResolving root.old root.new
+    requires ready { AreModulesStoredBeforeSearch root.old symbol.module_id visited.old.keys resolving.old.keys }
+    ensures after_call { FailsOnlyStoringAndRestoresAliases root.old root.new
         (IsNeededFrom root.old symbol.module_id (remaining_parts parts.now))
         resolving.old.keys resolving.new.keys result }
     ensures stores { AreNewlyStoredAmong root.old root.new
@@ -66,7 +69,7 @@ pub(crate) fn resolve_qualified_name_internal<'a>(
     ensures found_under_parts { IfOk result (λ paths. ArePathsFoundWithParts root.new resolving.old.keys
         visited.old.keys symbol (remaining_parts parts.now) paths.items visited.new.keys) }
     ensures visits { IfOk result (λ paths.
-        HasSearched root.new visited.old.keys visited.new.keys (modules_of_builders paths.items)) }
+        AreVisitedGrownAndModulesStored root.new visited.old.keys visited.new.keys (modules_of_builders paths.items)) }
 {
     let mut frames = VecDeque::new(root.alloc());
     frames.push_front(Frame::Parts(parts.same()?))?;
@@ -82,12 +85,13 @@ fn search_from<'a>(
     symbol: UniqueSymbolId,
 ) -> Result<Vec<PathBuilder<'a>>, SymbolsFault>
     ghost start: { SearchStart }
-    requires { IsSearchValid start root.old resolving.old.keys visited.old.keys frames.items
+    requires { IsSearchOfNeededModules start root.old resolving.old.keys visited.old.keys frames.items
         (Step.Search symbol) }
-    ensures keeps { KeepsOrRefuses root.old root.new (IsNeeded start root.old) result }
-    ensures stores { AreNewlyStoredAmong root.old root.new (IsNeeded start root.old) }
+    ensures keeps { HasGrownAndFailsOnlyStoringOneOf root.old root.new (IsNeededBySearchFromStart start root.old)
+        result }
+    ensures stores { AreNewlyStoredAmong root.old root.new (IsNeededBySearchFromStart start root.old) }
     ensures same { OnOk result (resolving.new.keys ≡ start.running) }
-    ensures found { IfOk result (λ paths. IsFoundAtLast start root.old visited.old.keys
+    ensures found { IfOk result (λ paths. IsFinalResultOfSearch start root.old visited.old.keys
         frames.entry.items (Step.Search symbol) root.new visited.new.keys paths.items) }
 {
     let mut state = SearchState {
@@ -108,11 +112,12 @@ fn take_steps<'a>(
     first: Step<'a>,
 ) -> Result<Vec<PathBuilder<'a>>, SymbolsFault>
     ghost start: { SearchStart }
-    requires { IsStateValid start root.old state.old first }
-    ensures keeps { KeepsOrRefuses root.old root.new (IsNeeded start root.old) result }
-    ensures stores { AreNewlyStoredAmong root.old root.new (IsNeeded start root.old) }
+    requires { IsStateOfNeededModules start root.old state.old first }
+    ensures keeps { HasGrownAndFailsOnlyStoringOneOf root.old root.new (IsNeededBySearchFromStart start root.old)
+        result }
+    ensures stores { AreNewlyStoredAmong root.old root.new (IsNeededBySearchFromStart start root.old) }
     ensures same { OnOk result (state.new.resolving.keys ≡ start.running) }
-    ensures found { IfOk result (λ paths. IsFoundAtLast start root.old state.old.visited.keys
+    ensures found { IfOk result (λ paths. IsFinalResultOfSearch start root.old state.old.visited.keys
         state.old.frames.items first.entry root.new state.new.visited.keys paths.items) }
 {
     let mut step = first;
@@ -127,7 +132,7 @@ fn take_steps<'a>(
 
 /// Returns whether no frame waits for what is found.
 fn is_over(state: &SearchState<'_>, step: &Step<'_>) -> bool
-    ensures { result ≡ is_over state.now.frames.items step.now }
+    ensures { result ≡ is_search_over state.now.frames.items step.now }
 {
     match step {
         Step::Found(_) => state.frames.is_empty(),
@@ -137,7 +142,7 @@ fn is_over(state: &SearchState<'_>, step: &Step<'_>) -> bool
 
 /// Returns what was found.
 fn found_paths(step: Step<'_>) -> Vec<PathBuilder<'_>>
-    requires { is_found step ≡ true }
+    requires { is_step_with_found_paths step ≡ true }
     ensures { step.entry ≡ Step.Found result }
 {
     match step {
@@ -153,11 +158,13 @@ fn take_step<'a>(
     step: Step<'a>,
 ) -> Result<Step<'a>, SymbolsFault>
     ghost start: { SearchStart }
-    requires valid { IsStateValid start root.old state.old step }
-    requires waits { is_over state.old.frames.items step ≡ false }
-    ensures keeps { KeepsOrRefuses root.old root.new (IsNeeded start root.old) result }
-    ensures stores { AreNewlyStoredAmong root.old root.new (IsNeeded start root.old) }
-    ensures steps { IfOk result (λ next. IsStateStep start root.old state.old step.entry root.new
+    requires valid { IsStateOfNeededModules start root.old state.old step }
+    requires waits { is_search_over state.old.frames.items step ≡ false }
+    ensures keeps { HasGrownAndFailsOnlyStoringOneOf root.old root.new (IsNeededBySearchFromStart start root.old)
+        result }
+    ensures stores { AreNewlyStoredAmong root.old root.new (IsNeededBySearchFromStart start root.old) }
+    ensures steps { IfOk result (λ next. IsStateStepWithSameOutcomeAndLessWork start root.old state.old step.entry
+        root.new
         state.new next) }
 {
     match step {

@@ -6,7 +6,7 @@ ghost use Rattle.symbols_table.specs.DeclViews.{Declaration};
 ghost use Rattle.symbols_root.specs.Roots.{RootView, specifier_in};
 ghost use Rattle.symbols_root.specs.Calls.{IsStored};
 ghost use Rattle.symbols_paths.specs.PathTrees.{no_symbol, definition, unresolved, leaf, link};
-ghost use Rattle.symbols_paths.specs.PathTrees.{no_trees, forest_of_tree, link_unless_empty};
+ghost use Rattle.symbols_paths.specs.PathTrees.{no_trees, forest_of_tree, forest_below_link_unless_empty};
 ghost use Rattle.symbols_paths.specs.DeclTargets.{declarations_of};
 ghost use Rattle.symbols_paths.specs.Derived.{alias_link_head};
 ghost use Rattle.symbols_paths.specs.Choice.{forest_of_unresolved};
@@ -15,11 +15,12 @@ ghost use Rattle.symbols_paths.specs.NeededModules.{AreNewlyStoredAmong};
 ghost use Rattle.symbols_paths.specs.inner.Views.{symbol_of_unique_id};
 ghost use Rattle.symbols_paths.specs.inner.PathBuilders.{remaining_parts, built_paths};
 ghost use Rattle.symbols_paths.specs.inner.PathBuilders.{modules_of_builders};
-ghost use Rattle.symbols_paths.specs.inner.Needed.{KeepsOrRefuses};
+ghost use Rattle.symbols_paths.specs.inner.Needed.{HasGrownAndFailsOnlyStoringOneOf};
 ghost use Rattle.symbols_paths.specs.inner.SearchSteps.{IsTargetOfDeclAtIndex};
-ghost use Rattle.symbols_paths.specs.inner.StillToCome.{link_head_of, no_export};
-ghost use Rattle.symbols_paths.specs.inner.SearchInvariants.{SearchStart, IsNeeded, IsNextDecl};
-ghost use Rattle.symbols_paths.specs.inner.SearchInvariants.{IsStateValid, IsStateStep};
+ghost use Rattle.symbols_paths.specs.inner.StillToCome.{link_head_of_current_decl, unresolved_entry_of_missing_export};
+ghost use Rattle.symbols_paths.specs.inner.SearchInvariants.{SearchStart, IsNeededBySearchFromStart};
+ghost use Rattle.symbols_paths.specs.inner.SearchInvariants.{IsExpansionAtNextDecl, IsStateOfNeededModules};
+ghost use Rattle.symbols_paths.specs.inner.SearchInvariants.{IsStateStepWithSameOutcomeAndLessWork};
 
 use crate::alias_decl::AliasDecl;
 use crate::decl_target::{
@@ -46,7 +47,7 @@ use symbols_table::info::SymbolsFault;
 /// Returns the expansion at the next declaration, with the paths so far.
 fn at_next_decl(here: Expansion<'_>) -> Expansion<'_>
     requires { here.index + 1 < 2 ^ 32 }
-    ensures next { IsNextDecl here.entry result (λ root. no_trees) }
+    ensures next { IsExpansionAtNextDecl here.entry result (λ root. no_trees) }
     ensures same { result.paths.items ≡ here.entry.paths.items }
 {
     Expansion {
@@ -64,7 +65,7 @@ fn with_definition<'a>(
     range: SourceRange,
 ) -> Result<Expansion<'a>, AllocError>
     requires { here.index + 1 < 2 ^ 32 }
-    ensures next { IfOk result (λ next. IsNextDecl here.entry next (λ root.
+    ensures next { IfOk result (λ next. IsExpansionAtNextDecl here.entry next (λ root.
         forest_of_tree (leaf (definition (record {
           decl = decl_by_specifier root here.entry.symbol.module_id
               (record { symbol = here.entry.symbol.symbol_id; index = here.entry.index });
@@ -98,8 +99,8 @@ pub(crate) fn with_link<'a>(
     next: Vec<PathBuilder<'a>>,
 ) -> Result<Expansion<'a>, AllocError>
     requires { here.index + 1 < 2 ^ 32 }
-    ensures next { IfOk result (λ after. IsNextDecl here.entry after (λ root. link_unless_empty
-        (link_head_of root here.entry symbol) (built_paths root next.entry.items))) }
+    ensures next { IfOk result (λ after. IsExpansionAtNextDecl here.entry after (λ root. forest_below_link_unless_empty
+        (link_head_of_current_decl root here.entry symbol) (built_paths root next.entry.items))) }
     ensures stored { IfOk result (λ after. (root : RootView) → IsStored root symbol.module_id
         → AreModulesStored root (modules_of_builders here.entry.paths.items)
         → AreModulesStored root (modules_of_builders next.entry.items)
@@ -120,7 +121,7 @@ pub(crate) fn with_alias_link<'a>(
     next: Vec<PathBuilder<'a>>,
 ) -> Result<Expansion<'a>, AllocError>
     requires { here.index + 1 < 2 ^ 32 }
-    ensures next { IfOk result (λ after. IsNextDecl here.entry after (λ root. link_unless_empty
+    ensures next { IfOk result (λ after. IsExpansionAtNextDecl here.entry after (λ root. forest_below_link_unless_empty
         (alias_link_head (symbol_of_unique_id root here.entry.symbol) here.entry.index
         (remaining_parts parts.now)) (built_paths root next.entry.items))) }
     ensures stored { IfOk result (λ after. (root : RootView)
@@ -144,7 +145,7 @@ fn with_unresolved_id<'a>(
     parts: &SharedParts,
 ) -> Result<Expansion<'a>, AllocError>
     requires { here.index + 1 < 2 ^ 32 }
-    ensures next { IfOk result (λ next. IsNextDecl here.entry next (λ root. forest_of_tree (link
+    ensures next { IfOk result (λ next. IsExpansionAtNextDecl here.entry next (λ root. forest_of_tree (link
         (alias_link_head (symbol_of_unique_id root here.entry.symbol) here.entry.index
         (remaining_parts parts.now))
         (forest_of_tree (leaf (unresolved (record {
@@ -170,8 +171,8 @@ pub(crate) fn begin_search<'a>(
     symbol: UniqueSymbolId,
 ) -> Result<Step<'a>, AllocError>
     ghost start: { SearchStart }
-    requires { IsStateValid start root.now state.old (Step.Search symbol) }
-    ensures { IfOk result (λ next. IsStateStep start root.now state.old
+    requires { IsStateOfNeededModules start root.now state.old (Step.Search symbol) }
+    ensures { IfOk result (λ next. IsStateStepWithSameOutcomeAndLessWork start root.now state.old
         (Step.Search symbol) root.now state.new next) }
 {
     stored_modules_distinct(root);
@@ -195,10 +196,11 @@ pub(crate) fn follow_next_decl<'a>(
     here: Expansion<'a>,
 ) -> Result<Step<'a>, SymbolsFault>
     ghost start: { SearchStart }
-    requires { IsStateValid start root.old state.old (Step.Expand here) }
-    ensures keeps { KeepsOrRefuses root.old root.new (IsNeeded start root.old) result }
-    ensures stores { AreNewlyStoredAmong root.old root.new (IsNeeded start root.old) }
-    ensures steps { IfOk result (λ next. IsStateStep start root.old state.old
+    requires { IsStateOfNeededModules start root.old state.old (Step.Expand here) }
+    ensures keeps { HasGrownAndFailsOnlyStoringOneOf root.old root.new (IsNeededBySearchFromStart start root.old)
+        result }
+    ensures stores { AreNewlyStoredAmong root.old root.new (IsNeededBySearchFromStart start root.old) }
+    ensures steps { IfOk result (λ next. IsStateStepWithSameOutcomeAndLessWork start root.old state.old
         (Step.Expand here.entry) root.new state.new next) }
 {
     let symbol = here.symbol;
@@ -218,13 +220,14 @@ fn follow_decl<'a>(
     decl_target: DeclTarget<'a>,
 ) -> Result<Step<'a>, SymbolsFault>
     ghost start: { SearchStart }
-    requires valid { IsStateValid start root.old state.old (Step.Expand here) }
+    requires valid { IsStateOfNeededModules start root.old state.old (Step.Expand here) }
     requires reads { IsTargetOfDeclAtIndex root.old.rules root.old.graph
         (symbol_of_unique_id root.old here.symbol) here.index decl_target }
     requires fits { here.index + 1 < 2 ^ 32 }
-    ensures keeps { KeepsOrRefuses root.old root.new (IsNeeded start root.old) result }
-    ensures stores { AreNewlyStoredAmong root.old root.new (IsNeeded start root.old) }
-    ensures steps { IfOk result (λ next. IsStateStep start root.old state.old
+    ensures keeps { HasGrownAndFailsOnlyStoringOneOf root.old root.new (IsNeededBySearchFromStart start root.old)
+        result }
+    ensures stores { AreNewlyStoredAmong root.old root.new (IsNeededBySearchFromStart start root.old) }
+    ensures steps { IfOk result (λ next. IsStateStepWithSameOutcomeAndLessWork start root.old state.old
         (Step.Expand here.entry) root.new state.new next) }
 {
     match decl_target {
@@ -257,12 +260,12 @@ fn begin_alias<'a>(
     parts: SharedParts,
 ) -> Result<Step<'a>, AllocError>
     ghost start: { SearchStart }
-    requires valid { IsStateValid start root.now state.old (Step.Expand here) }
+    requires valid { IsStateOfNeededModules start root.now state.old (Step.Expand here) }
     requires reads { IsTargetOfDeclAtIndex root.now.rules root.now.graph
         (symbol_of_unique_id root.now here.symbol) here.index
         (DeclTarget.Alias symbol_id parts) }
     requires fits { here.index + 1 < 2 ^ 32 }
-    ensures { IfOk result (λ next. IsStateStep start root.now state.old
+    ensures { IfOk result (λ next. IsStateStepWithSameOutcomeAndLessWork start root.now state.old
         (Step.Expand here.entry) root.now state.new next) }
 {
     stored_modules_distinct(root);
@@ -297,14 +300,15 @@ fn follow_import<'a>(
     named_import: &NamedImport<'a>,
 ) -> Result<Step<'a>, SymbolsFault>
     ghost start: { SearchStart }
-    requires valid { IsStateValid start root.old state.old (Step.Expand here) }
+    requires valid { IsStateOfNeededModules start root.old state.old (Step.Expand here) }
     requires reads { IsTargetOfDeclAtIndex root.old.rules root.old.graph
         (symbol_of_unique_id root.old here.symbol) here.index
         (DeclTarget.Import named_import.now) }
     requires fits { here.index + 1 < 2 ^ 32 }
-    ensures keeps { KeepsOrRefuses root.old root.new (IsNeeded start root.old) result }
-    ensures stores { AreNewlyStoredAmong root.old root.new (IsNeeded start root.old) }
-    ensures steps { IfOk result (λ next. IsStateStep start root.old state.old
+    ensures keeps { HasGrownAndFailsOnlyStoringOneOf root.old root.new (IsNeededBySearchFromStart start root.old)
+        result }
+    ensures stores { AreNewlyStoredAmong root.old root.new (IsNeededBySearchFromStart start root.old) }
+    ensures steps { IfOk result (λ next. IsStateStepWithSameOutcomeAndLessWork start root.old state.old
         (Step.Expand here.entry) root.new state.new next) }
 {
     let symbol = here.symbol;
@@ -351,9 +355,9 @@ fn with_missing_export<'a>(
     name: &str,
 ) -> Result<Expansion<'a>, AllocError>
     requires { here.index + 1 < 2 ^ 32 }
-    ensures next { IfOk result (λ next. IsNextDecl here.entry next (λ root. link_unless_empty
-        (link_head_of root here.entry here.entry.symbol)
-        (forest_of_unresolved (no_export root module_id name.now)))) }
+    ensures next { IfOk result (λ next. IsExpansionAtNextDecl here.entry next (λ root. forest_below_link_unless_empty
+        (link_head_of_current_decl root here.entry here.entry.symbol)
+        (forest_of_unresolved (unresolved_entry_of_missing_export root module_id name.now)))) }
     ensures stored { IfOk result (λ next. (root : RootView)
         → IsStored root here.entry.symbol.module_id
         → AreModulesStored root (modules_of_builders here.entry.paths.items)
@@ -372,10 +376,11 @@ pub(crate) fn try_next_star<'a>(
     star: Box<StarSearch<'a>>,
 ) -> Result<Step<'a>, SymbolsFault>
     ghost start: { SearchStart }
-    requires { IsStateValid start root.old state.old (Step.TryStar star) }
-    ensures keeps { KeepsOrRefuses root.old root.new (IsNeeded start root.old) result }
-    ensures stores { AreNewlyStoredAmong root.old root.new (IsNeeded start root.old) }
-    ensures steps { IfOk result (λ next. IsStateStep start root.old state.old
+    requires { IsStateOfNeededModules start root.old state.old (Step.TryStar star) }
+    ensures keeps { HasGrownAndFailsOnlyStoringOneOf root.old root.new (IsNeededBySearchFromStart start root.old)
+        result }
+    ensures stores { AreNewlyStoredAmong root.old root.new (IsNeededBySearchFromStart start root.old) }
+    ensures steps { IfOk result (λ next. IsStateStepWithSameOutcomeAndLessWork start root.old state.old
         (Step.TryStar star.entry) root.new state.new next) }
 {
     let mut star = star;

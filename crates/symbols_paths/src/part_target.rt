@@ -12,10 +12,9 @@ ghost use Rattle.symbols_paths.specs.Views.{symbol_by_specifier, decl_by_specifi
 ghost use Rattle.symbols_paths.specs.Views.{definition_by_specifier, reason_view, strings_view};
 ghost use Rattle.symbols_paths.specs.inner.Views.{first_part, later_parts};
 ghost use Rattle.symbols_paths.specs.NeededModules.{AreNewlyStoredAmong};
-ghost use Rattle.symbols_paths.specs.inner.Needed.{IsNeededFrom, IsSearchedForExportOf};
-ghost use Rattle.symbols_paths.specs.inner.Needed.{IsSearchedInImport, KeepsOrRefuses};
-ghost use Rattle.symbols_paths.specs.inner.Needed.{IsStarImportDeclared};
-ghost use Rattle.symbols_paths.specs.inner.SearchSteps.{part_target_view, IsPartStored};
+ghost use Rattle.symbols_paths.specs.inner.Needed.{IsNeededFrom, IsSearchedForExportOf, IsSearchedInImport};
+ghost use Rattle.symbols_paths.specs.inner.Needed.{HasGrownAndFailsOnlyStoringOneOf, IsStarImportDeclared};
+ghost use Rattle.symbols_paths.specs.inner.SearchSteps.{part_target_view, IsModuleOfPartTargetStored};
 
 use crate::decl_target::{export_of_symbol, is_class_decl_at};
 use crate::definition::{DeclRef, Definition, DefinitionKind};
@@ -51,7 +50,7 @@ fn missing_part(
           parts = strings_view parts.now;
         })) }
     ensures stored { IfOk result (λ part_target. (root : RootView) → IsStored root «module»
-        → IsPartStored root part_target) }
+        → IsModuleOfPartTargetStored root part_target) }
 {
     Ok(PartTarget::UnresolvedEntry(DefinitionUnresolved {
         module,
@@ -76,7 +75,7 @@ fn exported_part_target(
         (strings_view parts.now)) (later_parts (strings_view parts.now))
         (export_of_symbol root.now.graph (symbol_by_specifier root.now module_id decl.symbol)
         (first_part (strings_view parts.now)))) }
-    ensures stored { IfOk result (IsPartStored root.now) }
+    ensures stored { IfOk result (IsModuleOfPartTargetStored root.now) }
 {
     let symbol = UniqueSymbolId::new(module_id, decl.symbol);
     if let Some(symbol_id) = export_of_symbol(root, symbol, parts) {
@@ -102,14 +101,14 @@ fn module_part_target(
 ) -> Result<PartTarget, SymbolsFault>
     requires known { IsStored root.old module_id }
     requires some { 0 < length parts.now }
-    ensures keeps { KeepsOrRefuses root.old root.new
+    ensures keeps { HasGrownAndFailsOnlyStoringOneOf root.old root.new
         (IsSearchedForExportOf root.old module_id (first_part (strings_view parts.now))) result }
     ensures view { IfOk result (λ part_target. part_target_view root.new part_target
         ≡ module_part_target (specifier_in root.old module_id) (first_part
         (strings_view parts.now)) (later_parts (strings_view parts.now))
         (find_export root.old.graph (specifier_in root.old module_id)
         (first_part (strings_view parts.now)))) }
-    ensures stored { IfOk result (IsPartStored root.new) }
+    ensures stored { IfOk result (IsModuleOfPartTargetStored root.new) }
     ensures stores { AreNewlyStoredAmong root.old root.new
         (IsSearchedForExportOf root.old module_id (first_part (strings_view parts.now))) }
 {
@@ -136,13 +135,13 @@ pub(crate) fn import_part_target(
 ) -> Result<PartTarget, SymbolsFault>
     requires known { IsStored root.old module_id }
     requires some { 0 < length parts.now }
-    ensures keeps { KeepsOrRefuses root.old root.new (IsSearchedInImport root.old module_id
+    ensures keeps { HasGrownAndFailsOnlyStoringOneOf root.old root.new (IsSearchedInImport root.old module_id
         specifier_text.now (first_part (strings_view parts.now))) result }
     ensures view { IfOk result (λ part_target. part_target_view root.new part_target
         ≡ import_part_target root.old.graph (specifier_in root.old module_id) specifier_text.now
         (first_part (strings_view parts.now)) (later_parts (strings_view parts.now))
         (resolve_specifier root.old.graph (specifier_in root.old module_id) specifier_text.now)) }
-    ensures stored { IfOk result (IsPartStored root.new) }
+    ensures stored { IfOk result (IsModuleOfPartTargetStored root.new) }
     ensures stores { AreNewlyStoredAmong root.old root.new (IsSearchedInImport root.old module_id
         specifier_text.now (first_part (strings_view parts.now))) }
 {
@@ -169,13 +168,13 @@ pub(crate) fn part_target_of(
     requires known { IsStored root.old definition.now.«module» }
     requires some { 0 < length parts.now }
     requires declared { IsStarImportDeclared root.old.graph (definition_by_specifier root.old definition.now) }
-    ensures keeps { KeepsOrRefuses root.old root.new
+    ensures keeps { HasGrownAndFailsOnlyStoringOneOf root.old root.new
         (IsNeededFrom root.old definition.now.«module» (strings_view parts.now)) result }
     ensures view { IfOk result (λ part_target. part_target_view root.new part_target
         ≡ part_target_of root.old.graph (definition_by_specifier root.old definition.now)
         (first_part
         (strings_view parts.now)) (later_parts (strings_view parts.now))) }
-    ensures stored { IfOk result (IsPartStored root.new) }
+    ensures stored { IfOk result (IsModuleOfPartTargetStored root.new) }
     ensures stores { AreNewlyStoredAmong root.old root.new
         (IsNeededFrom root.old definition.now.«module» (strings_view parts.now)) }
 {

@@ -7,13 +7,11 @@ ghost use Rattle.symbols_paths.specs.declared.path_builder.Segment.TheVariants a
 ghost use Rattle.symbols_paths.specs.declared.path_builder.PathBuilder.TheVariants as builder;
 ghost use Rattle.symbols_paths.specs.PathTrees.{forest_of_tree, leaf};
 ghost use Rattle.symbols_paths.specs.Views.{path_leaf_of_end, module_of_end, AreModulesStored};
-ghost use Rattle.symbols_paths.specs.inner.PathBuilders.{remaining_parts, link_heads_of_segment};
-ghost use Rattle.symbols_paths.specs.inner.PathBuilders.{link_heads_of_segments};
-ghost use Rattle.symbols_paths.specs.inner.PathBuilders.{link_heads_with_parts};
-ghost use Rattle.symbols_paths.specs.inner.PathBuilders.{forest_below_links, built_path};
-ghost use Rattle.symbols_paths.specs.inner.PathBuilders.{built_paths, built_paths_of_option};
-ghost use Rattle.symbols_paths.specs.inner.PathBuilders.{modules_of_segment, modules_of_segments};
-ghost use Rattle.symbols_paths.specs.inner.PathBuilders.{modules_of_builder};
+ghost use Rattle.symbols_paths.specs.inner.PathBuilders.{remaining_parts, reversed_link_heads_of_segment};
+ghost use Rattle.symbols_paths.specs.inner.PathBuilders.{reversed_link_heads_of_segments};
+ghost use Rattle.symbols_paths.specs.inner.PathBuilders.{link_heads_with_parts_replaced, forest_below_reversed_links};
+ghost use Rattle.symbols_paths.specs.inner.PathBuilders.{built_path, built_paths, built_paths_of_option};
+ghost use Rattle.symbols_paths.specs.inner.PathBuilders.{modules_of_segment, modules_of_segments, modules_of_builder};
 ghost use Rattle.symbols_paths.specs.inner.PathBuilders.{modules_of_builders};
 
 use crate::definition::DeclRef;
@@ -193,7 +191,7 @@ pub(crate) fn push_segment<'a>(
     segment: Segment,
 ) -> Result<PathBuilder<'a>, AllocError>
     ensures view { IfOk result (λ longer. (root : RootView) → built_path root longer
-        ≡ forest_below_links (link_heads_of_segment root segment) (built_path root builder.entry)) }
+        ≡ forest_below_reversed_links (reversed_link_heads_of_segment root segment) (built_path root builder.entry)) }
     ensures stored { IfOk result (λ longer. (root : RootView)
         → AreModulesStored root (modules_of_segment segment)
         → AreModulesStored root (modules_of_builder builder.entry)
@@ -242,8 +240,8 @@ pub(crate) fn push_with_parts<'a>(
     builder: PathBuilder<'a>,
 ) -> Result<PathBuilder<'a>, AllocError>
     ensures view { IfOk result (λ longer. (root : RootView) → built_path root longer
-        ≡ forest_below_links (link_heads_with_parts (remaining_parts parts.now)
-        (link_heads_of_segments root segments.items)) (built_path root builder.entry)) }
+        ≡ forest_below_reversed_links (link_heads_with_parts_replaced (remaining_parts parts.now)
+        (reversed_link_heads_of_segments root segments.items)) (built_path root builder.entry)) }
     ensures stored { IfOk result (λ longer. (root : RootView)
         → AreModulesStored root (modules_of_segments segments.items)
         → AreModulesStored root (modules_of_builder builder.entry)

@@ -5,8 +5,7 @@ ghost use Rattle.std.specs.Option.{option_to_list};
 ghost use Rattle.symbols_ast.specs.Ids.{id_view};
 ghost use Rattle.symbols_root.specs.Roots.{RootView, specifier_in};
 ghost use Rattle.symbols_paths.specs.declared.path_builder.PathBuilder.{PathBuilder};
-ghost use Rattle.symbols_paths.specs.PathTrees.{leaf, link, forest_of_tree, link_unless_empty};
-ghost use Rattle.symbols_paths.specs.PathTrees.{definition};
+ghost use Rattle.symbols_paths.specs.PathTrees.{leaf, link, forest_of_tree, forest_below_link_unless_empty, definition};
 ghost use Rattle.symbols_paths.specs.PathTrees.{unresolved, no_symbol, no_part};
 ghost use Rattle.symbols_paths.specs.Views.{decl_by_specifier, star_import_view, reason_view};
 ghost use Rattle.symbols_paths.specs.Views.{strings_view, unresolved_entry_view, AreModulesStored};
@@ -62,7 +61,7 @@ fn link_builder_of_step<'a>(
     next: Vec<PathBuilder<'a>>,
 ) -> Result<Option<PathBuilder<'a>>, AllocError>
     ensures view { IfOk result (λ builder. (root : RootView) → built_paths_of_option root builder
-        ≡ link_unless_empty (link_head_of_step root step) (built_paths root next.entry.items)) }
+        ≡ forest_below_link_unless_empty (link_head_of_step root step) (built_paths root next.entry.items)) }
     ensures stored { IfOk result (λ builder. (root : RootView)
         → step.symbol.module_id.0 < length root.stored
         → AreModulesStored root (modules_of_builders next.entry.items)
@@ -84,7 +83,7 @@ fn link_builder<'a>(
     next: Vec<PathBuilder<'a>>,
 ) -> Result<Option<PathBuilder<'a>>, AllocError>
     ensures view { IfOk result (λ builder. (root : RootView) → built_paths_of_option root builder
-        ≡ link_unless_empty (record {
+        ≡ forest_below_link_unless_empty (record {
           symbol = symbol_of_unique_id root symbol;
           decl = decl_by_specifier root symbol.module_id symbol_decl;
           parts = [];
@@ -112,7 +111,7 @@ pub(crate) fn link_builder_with_parts<'a>(
     next: Vec<PathBuilder<'a>>,
 ) -> Result<Option<PathBuilder<'a>>, AllocError>
     ensures view { IfOk result (λ builder. (root : RootView) → built_paths_of_option root builder
-        ≡ link_unless_empty (record {
+        ≡ forest_below_link_unless_empty (record {
           symbol = symbol_of_unique_id root symbol;
           decl = decl_by_specifier root symbol.module_id symbol_decl;
           parts = remaining_parts parts.now;
@@ -298,7 +297,7 @@ pub(crate) fn push_link<'a>(
 ) -> Result<(), AllocError>
     ensures { OnOk result ((builder : Option PathBuilder)
         × (builders.new.items ≡ builders.old.items ++ option_to_list builder)
-        × ((root : RootView) → built_paths_of_option root builder ≡ link_unless_empty
+        × ((root : RootView) → built_paths_of_option root builder ≡ forest_below_link_unless_empty
         (record {
           symbol = symbol_of_unique_id root symbol;
           decl = decl_by_specifier root symbol.module_id
@@ -326,7 +325,7 @@ pub(crate) fn push_link_with_parts<'a>(
 ) -> Result<(), AllocError>
     ensures { OnOk result ((builder : Option PathBuilder)
         × (builders.new.items ≡ builders.old.items ++ option_to_list builder)
-        × ((root : RootView) → built_paths_of_option root builder ≡ link_unless_empty
+        × ((root : RootView) → built_paths_of_option root builder ≡ forest_below_link_unless_empty
         (record {
           symbol = symbol_of_unique_id root symbol;
           decl = decl_by_specifier root symbol.module_id symbol_decl;

@@ -8,8 +8,8 @@ ghost use Rattle.symbols_exports.specs.StarStatements.{star_specifiers, resolve_
 ghost use Rattle.symbols_paths.specs.DeclTargets.{re_exported_symbol};
 ghost use Rattle.symbols_paths.specs.inner.Views.{symbol_of_unique_id};
 ghost use Rattle.symbols_paths.specs.NeededModules.{AreNewlyStoredAmong};
-ghost use Rattle.symbols_paths.specs.inner.Needed.{IsSearchedAlongStarsOf, KeepsOrRefuses};
-ghost use Rattle.symbols_paths.specs.inner.Needed.{StoresOnlyTarget};
+ghost use Rattle.symbols_paths.specs.inner.Needed.{IsSearchedAlongStarsOf, HasGrownAndFailsOnlyStoringOneOf};
+ghost use Rattle.symbols_paths.specs.inner.Needed.{StoresOnlyResolvedModule};
 
 use symbols_exports::export_of;
 use symbols_graph::LookupCounter;
@@ -31,7 +31,7 @@ pub(crate) fn resolve_specifier(
         ≡ option_map (λ s. Some s) (resolve_specifier root.old.graph
         (specifier_in root.old referrer) specifier_text.now)) }
     ensures unchanged { OnErr result (root.new ≡ root.old) }
-    ensures stores { StoresOnlyTarget root.old root.new referrer specifier_text.now }
+    ensures stores { StoresOnlyResolvedModule root.old root.new referrer specifier_text.now }
 {
     let specifier = root.specifier_from_id(referrer);
     let mut lookups = LookupCounter::new();
@@ -59,7 +59,7 @@ pub(crate) fn re_exported_symbol(
     requires occurs { (position : ℕ)
         × (slice_get (star_specifiers root.old.graph (specifier_in root.old module_id)) position
         ≡ Some specifier_text.now) }
-    ensures keeps { KeepsOrRefuses root.old root.new
+    ensures keeps { HasGrownAndFailsOnlyStoringOneOf root.old root.new
         (IsSearchedAlongStarsOf root.old module_id name.now) result }
     ensures gives { IfOk result (λ symbol. option_map (symbol_of_unique_id root.new) symbol
         ≡ re_exported_symbol root.old.graph name.now (resolve_specifier root.old.graph

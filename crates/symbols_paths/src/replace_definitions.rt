@@ -7,15 +7,14 @@ ghost use Rattle.symbols_paths.specs.Views.{definition_by_specifier, path_leaf_o
 ghost use Rattle.symbols_paths.specs.Views.{module_of_end};
 ghost use Rattle.symbols_paths.specs.Views.{module_of_definition, AreModulesStored};
 ghost use Rattle.symbols_paths.specs.PathTrees.{QualifiedNameParts, leaf};
-ghost use Rattle.symbols_paths.specs.inner.ReplacedDefinitions.{definitions_of_tree};
-ghost use Rattle.symbols_paths.specs.inner.ReplacedDefinitions.{definitions_of_forest};
-ghost use Rattle.symbols_paths.specs.inner.ReplacedDefinitions.{rebuilt_tree, rebuilt};
-ghost use Rattle.symbols_paths.specs.inner.PathBuilders.{remaining_parts, link_heads_of_segments};
-ghost use Rattle.symbols_paths.specs.inner.PathBuilders.{link_heads_with_parts, forest_below_links};
-ghost use Rattle.symbols_paths.specs.inner.PathBuilders.{built_path, built_paths};
-ghost use Rattle.symbols_paths.specs.inner.PathBuilders.{built_paths_of_option};
-ghost use Rattle.symbols_paths.specs.inner.PathBuilders.{modules_of_segments, modules_of_builder};
-ghost use Rattle.symbols_paths.specs.inner.PathBuilders.{modules_of_builders, builders_among};
+ghost use Rattle.symbols_paths.specs.inner.ReplacedDefinitions.{definitions_of_tree, definitions_of_forest};
+ghost use Rattle.symbols_paths.specs.inner.ReplacedDefinitions.{tree_with_definitions_replaced};
+ghost use Rattle.symbols_paths.specs.inner.ReplacedDefinitions.{forest_with_definitions_replaced};
+ghost use Rattle.symbols_paths.specs.inner.PathBuilders.{remaining_parts, reversed_link_heads_of_segments};
+ghost use Rattle.symbols_paths.specs.inner.PathBuilders.{link_heads_with_parts_replaced, forest_below_reversed_links};
+ghost use Rattle.symbols_paths.specs.inner.PathBuilders.{built_path, built_paths, built_paths_of_option};
+ghost use Rattle.symbols_paths.specs.inner.PathBuilders.{modules_of_segments, modules_of_builder, modules_of_builders};
+ghost use Rattle.symbols_paths.specs.inner.PathBuilders.{builders_among};
 
 use crate::definition::Definition;
 use crate::definition_iter::DefinitionOrUnresolved;
@@ -133,11 +132,11 @@ pub(crate) fn replace_definitions<'a>(
     changed: &mut VecDeque<Option<PathBuilder<'a>>>,
 ) -> Result<Vec<PathBuilder<'a>>, AllocError>
     ensures found { IfOk result (λ found. (root : RootView) → built_paths root found.items
-        ≡ (rebuilt (remaining_parts parts.now) (built_paths root builders.entry.items)
+        ≡ (forest_with_definitions_replaced (remaining_parts parts.now) (built_paths root builders.entry.items)
         (map (built_paths_of_option root) changed.old.items)).0) }
     ensures left { OnOk result ((root : RootView)
         → map (built_paths_of_option root) changed.new.items
-        ≡ (rebuilt (remaining_parts parts.now) (built_paths root builders.entry.items)
+        ≡ (forest_with_definitions_replaced (remaining_parts parts.now) (built_paths root builders.entry.items)
         (map (built_paths_of_option root) changed.old.items)).1) }
     ensures stored { IfOk result (λ found. (root : RootView)
         → AreModulesStored root (modules_of_builders builders.entry.items)
@@ -197,11 +196,11 @@ fn replace_end<'a>(
 ) -> Option<PathBuilder<'a>>
     ensures found { (root : RootView) (parts : QualifiedNameParts)
         → built_paths_of_option root result
-        ≡ (rebuilt_tree parts (leaf (path_leaf_of_end root end.entry))
+        ≡ (tree_with_definitions_replaced parts (leaf (path_leaf_of_end root end.entry))
         (map (built_paths_of_option root) changed.old.items)).0 }
     ensures left { (root : RootView) (parts : QualifiedNameParts)
         → map (built_paths_of_option root) changed.new.items
-        ≡ (rebuilt_tree parts (leaf (path_leaf_of_end root end.entry))
+        ≡ (tree_with_definitions_replaced parts (leaf (path_leaf_of_end root end.entry))
         (map (built_paths_of_option root) changed.old.items)).1 }
     ensures stored { (root : RootView) → AreModulesStored root (module_of_end end.entry ∷ [])
         → AreModulesStored root (modules_of_builders (builders_among changed.old.items))
@@ -224,8 +223,8 @@ fn with_segments<'a>(
     builder: Option<PathBuilder<'a>>,
 ) -> Result<Option<PathBuilder<'a>>, AllocError>
     ensures view { IfOk result (λ found. (root : RootView) → built_paths_of_option root found
-        ≡ forest_below_links (link_heads_with_parts (remaining_parts parts.now)
-        (link_heads_of_segments root segments.items)) (built_paths_of_option root builder.entry)) }
+        ≡ forest_below_reversed_links (link_heads_with_parts_replaced (remaining_parts parts.now)
+        (reversed_link_heads_of_segments root segments.items)) (built_paths_of_option root builder.entry)) }
     ensures stored { IfOk result (λ found. (root : RootView)
         → AreModulesStored root (modules_of_segments segments.items)
         → AreModulesStored root (modules_of_builders (option_to_list builder.entry))

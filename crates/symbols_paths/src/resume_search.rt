@@ -3,7 +3,7 @@
 ghost use Rattle.std.specs.Prelude.{◌≡◌, ◌+◌, ◌<◌, ◌^◌, [], ◌∷◌, length, map, IfOk, IfSome};
 ghost use Rattle.symbols_root.specs.Roots.{RootView};
 ghost use Rattle.symbols_root.specs.Calls.{IsStored};
-ghost use Rattle.symbols_paths.specs.PathTrees.{link_unless_empty};
+ghost use Rattle.symbols_paths.specs.PathTrees.{forest_below_link_unless_empty};
 ghost use Rattle.symbols_paths.specs.Derived.{part_link_head};
 ghost use Rattle.symbols_paths.specs.Views.{definition_by_specifier, AreModulesStored};
 ghost use Rattle.symbols_paths.specs.NeededModules.{AreNewlyStoredAmong};
@@ -11,12 +11,13 @@ ghost use Rattle.symbols_paths.specs.inner.PathBuilders.{remaining_parts, built_
 ghost use Rattle.symbols_paths.specs.inner.PathBuilders.{built_paths_of_option};
 ghost use Rattle.symbols_paths.specs.inner.PathBuilders.{modules_of_builder, modules_of_builders};
 ghost use Rattle.symbols_paths.specs.inner.PathBuilders.{builders_among};
-ghost use Rattle.symbols_paths.specs.inner.ReplacedDefinitions.{rebuilt};
-ghost use Rattle.symbols_paths.specs.inner.Needed.{KeepsOrRefuses};
-ghost use Rattle.symbols_paths.specs.inner.SearchInvariants.{SearchStart, IsNeeded, IsSearchValid};
-ghost use Rattle.symbols_paths.specs.inner.SearchInvariants.{IsStep, IsStateStep, IsStateValid};
-ghost use Rattle.symbols_paths.specs.inner.SearchInvariants.{IsStarSearchValid, IsPartsSearchValid};
-ghost use Rattle.symbols_paths.specs.inner.SearchInvariants.{IsResumed};
+ghost use Rattle.symbols_paths.specs.inner.ReplacedDefinitions.{forest_with_definitions_replaced};
+ghost use Rattle.symbols_paths.specs.inner.Needed.{HasGrownAndFailsOnlyStoringOneOf};
+ghost use Rattle.symbols_paths.specs.inner.SearchInvariants.{SearchStart, IsNeededBySearchFromStart};
+ghost use Rattle.symbols_paths.specs.inner.SearchInvariants.{IsSearchOfNeededModules, IsStepWithSameOutcomeAndLessWork};
+ghost use Rattle.symbols_paths.specs.inner.SearchInvariants.{IsStateStepWithSameOutcomeAndLessWork};
+ghost use Rattle.symbols_paths.specs.inner.SearchInvariants.{IsStateOfNeededModules, IsStarSearchOfNeededModules};
+ghost use Rattle.symbols_paths.specs.inner.SearchInvariants.{IsPartsSearchOfNeededModules, IsNextStepOfResumedFrame};
 
 use crate::definition::Definition;
 use crate::follow_decl::{with_alias_link, with_link};
@@ -42,9 +43,9 @@ pub(crate) fn resume_frame<'a>(
     paths: Vec<PathBuilder<'a>>,
 ) -> Result<Step<'a>, AllocError>
     ghost start: { SearchStart }
-    requires { IsSearchValid start root.now state.old.resolving.keys state.old.visited.keys
+    requires { IsSearchOfNeededModules start root.now state.old.resolving.keys state.old.visited.keys
         (frame ∷ state.old.frames.items) (Step.Found paths) }
-    ensures { IfOk result (λ next. IsStep start root.now state.old.visited.keys
+    ensures { IfOk result (λ next. IsStepWithSameOutcomeAndLessWork start root.now state.old.visited.keys
         (frame.entry ∷ state.old.frames.items) (Step.Found paths.entry) root.now
         state.new.resolving.keys state.new.visited.keys state.new.frames.items next) }
 {
@@ -69,8 +70,8 @@ fn resume_star<'a>(
     paths: Vec<PathBuilder<'a>>,
 ) -> Result<Step<'a>, AllocError>
     ghost start: { SearchStart }
-    requires { IsStarSearchValid start root.now star.value }
-    ensures { IfOk result (IsResumed start root.now (Frame.Star star.entry)
+    requires { IsStarSearchOfNeededModules start root.now star.value }
+    ensures { IfOk result (IsNextStepOfResumedFrame start root.now (Frame.Star star.entry)
         (Step.Found paths.entry)) }
 {
     if paths.is_empty() {
@@ -90,9 +91,9 @@ fn resume_alias<'a>(
     paths: Vec<PathBuilder<'a>>,
 ) -> Result<Step<'a>, AllocError>
     ghost start: { SearchStart }
-    requires { IsSearchValid start root.now state.old.resolving.keys state.old.visited.keys
+    requires { IsSearchOfNeededModules start root.now state.old.resolving.keys state.old.visited.keys
         (Frame.Alias alias ∷ state.old.frames.items) (Step.Found paths) }
-    ensures { IfOk result (λ next. IsStep start root.now state.old.visited.keys
+    ensures { IfOk result (λ next. IsStepWithSameOutcomeAndLessWork start root.now state.old.visited.keys
         (Frame.Alias alias.entry ∷ state.old.frames.items) (Step.Found paths.entry) root.now
         state.new.resolving.keys state.new.visited.keys state.new.frames.items next) }
 {
@@ -109,7 +110,7 @@ fn resume_parts<'a>(
     paths: Vec<PathBuilder<'a>>,
 ) -> Result<Step<'a>, AllocError>
     ghost start: { SearchStart }
-    ensures { IfOk result (IsResumed start root.now (Frame.Parts parts)
+    ensures { IfOk result (IsNextStepOfResumedFrame start root.now (Frame.Parts parts)
         (Step.Found paths.entry)) }
 {
     if parts.is_empty() {
@@ -133,7 +134,7 @@ fn resume_replacement<'a>(
 ) -> Result<Step<'a>, AllocError>
     ghost start: { SearchStart }
     requires { length search.value.replacements.items < length search.value.definitions.items }
-    ensures { IfOk result (IsResumed start root.now (Frame.Replacement search.entry)
+    ensures { IfOk result (IsNextStepOfResumedFrame start root.now (Frame.Replacement search.entry)
         (Step.Found paths.entry)) }
 {
     let mut search = search;
@@ -151,7 +152,7 @@ fn part_link<'a>(
     next: Vec<PathBuilder<'a>>,
 ) -> Result<Option<PathBuilder<'a>>, AllocError>
     ensures view { IfOk result (λ builder. (root : RootView) → built_paths_of_option root builder
-        ≡ link_unless_empty (part_link_head (definition_by_specifier root definition.now)
+        ≡ forest_below_link_unless_empty (part_link_head (definition_by_specifier root definition.now)
         (remaining_parts parts.now)) (built_paths root next.entry.items)) }
     ensures stored { IfOk result (λ builder. (root : RootView)
         → IsStored root definition.now.«module»
@@ -170,10 +171,11 @@ pub(crate) fn replace_next_definition<'a>(
     search: Box<PartsSearch<'a>>,
 ) -> Result<Step<'a>, SymbolsFault>
     ghost start: { SearchStart }
-    requires { IsStateValid start root.old state.old (Step.Replace search) }
-    ensures keeps { KeepsOrRefuses root.old root.new (IsNeeded start root.old) result }
-    ensures stores { AreNewlyStoredAmong root.old root.new (IsNeeded start root.old) }
-    ensures steps { IfOk result (λ next. IsStateStep start root.old state.old
+    requires { IsStateOfNeededModules start root.old state.old (Step.Replace search) }
+    ensures keeps { HasGrownAndFailsOnlyStoringOneOf root.old root.new (IsNeededBySearchFromStart start root.old)
+        result }
+    ensures stores { AreNewlyStoredAmong root.old root.new (IsNeededBySearchFromStart start root.old) }
+    ensures steps { IfOk result (λ next. IsStateStepWithSameOutcomeAndLessWork start root.old state.old
         (Step.Replace search.entry) root.new state.new next) }
 {
     let mut search = search;
@@ -215,7 +217,7 @@ fn replaced_paths<'a>(
     search: Box<PartsSearch<'a>>,
 ) -> Result<Vec<PathBuilder<'a>>, AllocError>
     ensures found { IfOk result (λ found. (root : RootView) → built_paths root found.items
-        ≡ (rebuilt (remaining_parts search.entry.value.parts)
+        ≡ (forest_with_definitions_replaced (remaining_parts search.entry.value.parts)
         (built_paths root search.entry.value.paths.items)
         (map (built_paths_of_option root) search.entry.value.replacements.items)).0) }
     ensures stored { IfOk result (λ found. (root : RootView)

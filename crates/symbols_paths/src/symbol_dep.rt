@@ -15,7 +15,7 @@ ghost use Rattle.symbols_paths.specs.inner.Views.{first_part, later_parts};
 ghost use Rattle.symbols_paths.specs.inner.PathBuilders.{remaining_parts, built_paths};
 ghost use Rattle.symbols_paths.specs.inner.PathBuilders.{modules_of_builders};
 ghost use Rattle.symbols_paths.specs.NeededModules.{IsNeededByReference, AreNewlyStoredAmong};
-ghost use Rattle.symbols_paths.specs.inner.Needed.{IsNeededFrom, KeepsOrRefuses};
+ghost use Rattle.symbols_paths.specs.inner.Needed.{IsNeededFrom, HasGrownAndFailsOnlyStoringOneOf};
 ghost use Rattle.symbols_paths.specs.Answers.{AreDefinitionPathsWithAnyParts};
 ghost use Rattle.symbols_paths.specs.DepAnswers.{resolved_dep_entry_view, modules_of_entries};
 ghost use Rattle.symbols_paths.specs.DepAnswers.{path_entries};
@@ -57,7 +57,7 @@ fn resolve_qualified_name<'a>(
     parts: &SharedParts,
 ) -> Result<Vec<PathBuilder<'a>>, SymbolsFault>
     requires known { IsStored root.old symbol.module_id }
-    ensures keeps { KeepsOrRefuses root.old root.new
+    ensures keeps { HasGrownAndFailsOnlyStoringOneOf root.old root.new
         (IsNeededFrom root.old symbol.module_id (remaining_parts parts.now)) result }
     ensures stores { AreNewlyStoredAmong root.old root.new
         (IsNeededFrom root.old symbol.module_id (remaining_parts parts.now)) }
@@ -84,7 +84,7 @@ fn resolve_after_first_part<'a>(
 ) -> Result<Vec<PathBuilder<'a>>, SymbolsFault>
     requires known { IsStored root.old symbol.module_id }
     requires some { 0 < length (remaining_parts parts.now) }
-    ensures keeps { KeepsOrRefuses root.old root.new
+    ensures keeps { HasGrownAndFailsOnlyStoringOneOf root.old root.new
         (IsNeededFrom root.old symbol.module_id (later_parts (remaining_parts parts.now))) result }
     ensures stores { AreNewlyStoredAmong root.old root.new
         (IsNeededFrom root.old symbol.module_id (later_parts (remaining_parts parts.now))) }
@@ -134,7 +134,7 @@ fn go_to_id_and_parts_definition_paths<'a>(
     parts: &SharedParts,
 ) -> Result<Vec<PathBuilder<'a>>, SymbolsFault>
     requires known { IsStored root.old module_id }
-    ensures keeps { KeepsOrRefuses root.old root.new
+    ensures keeps { HasGrownAndFailsOnlyStoringOneOf root.old root.new
         (IsNeededFrom root.old module_id (remaining_parts parts.now)) result }
     ensures stores { AreNewlyStoredAmong root.old root.new
         (IsNeededFrom root.old module_id (remaining_parts parts.now)) }
@@ -170,7 +170,7 @@ fn resolve_qualified_export_name<'a>(
 ) -> Result<Vec<PathBuilder<'a>>, SymbolsFault>
     requires known { IsStored root.old module_id }
     requires some { 0 < length (remaining_parts parts.now) }
-    ensures keeps { KeepsOrRefuses root.old root.new
+    ensures keeps { HasGrownAndFailsOnlyStoringOneOf root.old root.new
         (IsNeededByReference root.old.rules root.old.graph (specifier_in root.old module_id)
         (import_type specifier_text.now (remaining_parts parts.now))) result }
     ensures stores { AreNewlyStoredAmong root.old root.new
@@ -204,7 +204,7 @@ fn resolve_import_type<'a>(
     specifier_text: &str,
 ) -> Result<Vec<ResolvedSymbolDepEntry<'a>>, SymbolsFault>
     requires known { IsStored root.old module_id }
-    ensures keeps { KeepsOrRefuses root.old root.new
+    ensures keeps { HasGrownAndFailsOnlyStoringOneOf root.old root.new
         (IsNeededByReference root.old.rules root.old.graph (specifier_in root.old module_id)
         (import_type specifier_text.now [])) result }
     ensures stores { AreNewlyStoredAmong root.old root.new
@@ -275,7 +275,7 @@ pub(crate) fn resolve_id_dep<'a>(
     parts: &SharedParts,
 ) -> Result<Vec<ResolvedSymbolDepEntry<'a>>, SymbolsFault>
     requires known { IsStored root.old module_id }
-    ensures keeps { KeepsOrRefuses root.old root.new
+    ensures keeps { HasGrownAndFailsOnlyStoringOneOf root.old root.new
         (IsNeededFrom root.old module_id (remaining_parts parts.now)) result }
     ensures stores { AreNewlyStoredAmong root.old root.new
         (IsNeededFrom root.old module_id (remaining_parts parts.now)) }
@@ -304,7 +304,7 @@ pub(crate) fn resolve_import_type_dep<'a>(
     parts: &SharedParts,
 ) -> Result<Vec<ResolvedSymbolDepEntry<'a>>, SymbolsFault>
     requires known { IsStored root.old module_id }
-    ensures keeps { KeepsOrRefuses root.old root.new
+    ensures keeps { HasGrownAndFailsOnlyStoringOneOf root.old root.new
         (IsNeededByReference root.old.rules root.old.graph (specifier_in root.old module_id)
         (import_type specifier_text.now (remaining_parts parts.now))) result }
     ensures stores { AreNewlyStoredAmong root.old root.new

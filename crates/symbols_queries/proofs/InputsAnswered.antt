@@ -10,18 +10,18 @@ use Rattle.symbols_ast.specs.declared.ids.ModuleId.{ModuleId}
 use Rattle.symbols_ast.specs.Graph.{GraphView}
 use Rattle.symbols_table.specs.declared.info.fault.SymbolsFault.{SymbolsFault}
 use Rattle.symbols_root.specs.Growing.{HasGrown}
-use Rattle.symbols_root.specs.Roots.{RootView, with_stored_module, maybe_specifier}
+use Rattle.symbols_root.specs.Roots.{RootView, root_with_stored_module, maybe_specifier}
 use Rattle.symbols_root.specs.TypesChains.{resolved_module_specifier}
 use Rattle.symbols_paths.specs.NeededModules.{IsFaultOfStoringOneOf, AreNewlyStoredAmong}
 use Rattle.symbols_paths.specs.laws.Storing.{newly_stored_among_more, newly_stored_by_two_calls}
 use Rattle.symbols_answers.specs.Questions.{QueryView, inputs_query}
 use Rattle.symbols_answers.specs.Answers.{answer_inputs}
-use Rattle.symbols_answers.specs.Inputs.{InputView, input_of}
+use Rattle.symbols_answers.specs.Inputs.{InputView, input_of_specifier}
 use Rattle.symbols_answers.specs.InputLists.{seen_specifiers, inputs_of_query}
 use Rattle.symbols_answers.specs.Meanings.{IsAnswerOfInputs}
 use Rattle.symbols_answers.specs.QueryReach.{IsSpecifierLookedUpByQuery}
 use Rattle.symbols_answers.specs.Stored.{AreRequestedModulesStored}
-use Rattle.symbols_answers.specs.laws.SeenLists.{list_seen, seen_listed, seen_distinct}
+use Rattle.symbols_answers.specs.laws.SeenLists.{seen_specifiers_are_looked_up, looked_up_specifiers_are_seen, seen_specifiers_are_distinct}
 use Rattle.symbols_queries.specs.declared.inputs.QueryInput.{QueryInput}
 use Rattle.symbols_queries.specs.AnswerViews.{input_view, inputs_view}
 use Rattle.symbols_queries.specs.QueryFaults.{IsNeededForInputs, CanBeStoredByQuery, IsQueryFault}
@@ -43,21 +43,26 @@ mapped_has f xs x has =
 -- ---- the meaning of the list
 
 module _ (graph : GraphView) (query : QueryView) where
-  specifiers_of : (xs : List (List ℕ)) → map (λ (input : InputView). input.specifier) (map (input_of graph) xs) ≡ xs
+  specifiers_of : (xs : List (List ℕ)) → map (λ (input : InputView). input.specifier) (map (input_of_specifier graph) xs) ≡ xs
   specifiers_of [] = refl
   specifiers_of (x ∷ xs) = ap (λ ys. x ∷ ys) (specifiers_of xs)
 
   listed_is_seen : (input : InputView) → Contains (inputs_of_query graph query) input
-      → IsSpecifierLookedUpByQuery graph query input.specifier × (input ≡ input_of graph input.specifier)
+      → IsSpecifierLookedUpByQuery graph query input.specifier × (input ≡ input_of_specifier graph input.specifier)
   listed_is_seen input has =
-      let from = mapped_from (input_of graph) (seen_specifiers graph query) input has in
-      let same : from.0 ≡ input.specifier = ap (λ (i : InputView). i.specifier) from.2 in
-      (subst (IsSpecifierLookedUpByQuery graph query) same (list_seen graph query from.0 from.1), sym from.2 ∙ ap (input_of graph) same)
+      let from = mapped_from (input_of_specifier graph) (seen_specifiers graph query) input has in
+      let same : from.0 ≡ input.specifier = ap (λ (i : InputView). i.specifier) from.2 in (
+        subst (IsSpecifierLookedUpByQuery graph query) same (seen_specifiers_are_looked_up graph query from.0 from.1),
+        sym from.2
+            ∙ ap (input_of_specifier graph) same,
+      )
 
   seen_is_listed : length (seen_specifiers graph query) ≤ 2 ^ 63 → (input : InputView)
-      → IsSpecifierLookedUpByQuery graph query input.specifier × (input ≡ input_of graph input.specifier) → Contains (inputs_of_query graph query) input
+      → IsSpecifierLookedUpByQuery graph query input.specifier × (input ≡ input_of_specifier graph input.specifier)
+      → Contains (inputs_of_query graph query) input
   seen_is_listed few input is = subst (Contains (inputs_of_query graph query)) (sym is.1)
-      (mapped_has (input_of graph) (seen_specifiers graph query) input.specifier (seen_listed graph query (omega (arith, few)) input.specifier is.0))
+      (mapped_has (input_of_specifier graph) (seen_specifiers graph query) input.specifier
+      (looked_up_specifiers_are_seen graph query (omega (arith, few)) input.specifier is.0))
 
   pub inputs_mean : (inputs : List InputView) → length (seen_specifiers graph query) ≤ 2 ^ 63 → inputs ≡ inputs_of_query graph query
       → IsAnswerOfInputs graph query (answer_inputs inputs)
@@ -69,7 +74,7 @@ module _ (graph : GraphView) (query : QueryView) where
     );
     has_no_duplicates = subst (IsDistinct bytes_eq)
         (sym (ap (map (λ (input : InputView). input.specifier)) listed ∙ specifiers_of (seen_specifiers graph query)))
-        (seen_distinct graph query);
+        (seen_specifiers_are_distinct graph query);
     in_order = listed;
     answer_is = refl;
   }
@@ -77,12 +82,12 @@ module _ (graph : GraphView) (query : QueryView) where
 -- ---- a call for the inputs
 
 module _ (old mid new : RootView) (queried : QueryView) (specifier : List ℕ) (same : specifier ≡ queried.specifier) (grown : HasGrown old mid)
-    (stored : mid ≡ with_stored_module old (resolved_module_specifier old.graph specifier)) where
+    (stored : mid ≡ root_with_stored_module old (resolved_module_specifier old.graph specifier)) where
   abbrev query : QueryView
   query = inputs_query queried
 
-  stored_for_query : mid ≡ with_stored_module old (resolved_module_specifier old.graph query.specifier)
-  stored_for_query = subst (λ (text : List ℕ). mid ≡ with_stored_module old (resolved_module_specifier old.graph text)) same stored
+  stored_for_query : mid ≡ root_with_stored_module old (resolved_module_specifier old.graph query.specifier)
+  stored_for_query = subst (λ (text : List ℕ). mid ≡ root_with_stored_module old (resolved_module_specifier old.graph text)) same stored
 
   -- the number of the module that the specifier resolves to
   pub resolved_in : (found : Option ModuleId)

@@ -24,13 +24,13 @@ use Rattle.symbols_table.specs.Symbols.{symbol_decls}
 use Rattle.symbols_table.specs.SymbolViews.{SymbolView, symbol_view}
 use Rattle.symbols_root.specs.declared.rules.Rules.{Rules}
 use Rattle.symbols_root.specs.declared.rules.Rules.TheVariants.{Deno, Strict}
-use Rattle.symbols_root.specs.GraphModules.{changes_of_module, symbol_in_module}
+use Rattle.symbols_root.specs.GraphModules.{table_changes_of_module, symbol_in_module}
 use Rattle.symbols_root.specs.Growing.{HasGrown}
 use Rattle.symbols_root.specs.Roots.{RootView, IsStoringFault, IsTableOfStoredModule, specifier_in}
 use Rattle.symbols_root.specs.laws.Growing.{has_grown_refl}
 use Rattle.symbols_root.specs.laws.StoredTables.{stored_table_has_module_symbols}
 use Rattle.symbols_exports.specs.ExportAnswers.{IsExportsCallResult, IsExportsCallFault, AreExportListsCorrectAndUnique}
-use Rattle.symbols_exports.specs.PublicNames.{PublicNameView, IsPublicNamesCallResult}
+use Rattle.symbols_exports.specs.PublicNames.{ExportedNameWithMember, IsPublicNamesCallResult}
 use Rattle.symbols_exports.specs.CollectedNames.{ResolvedExportView}
 use Rattle.symbols_exports.specs.ExportViews.{ExportView, StarStatementView, export_by_specifier, star_statement_by_specifier}
 use Rattle.symbols_exports.specs.SharedNames.{NameWithExporters}
@@ -145,7 +145,7 @@ module_given root module_id named_form known same = record {
 }
 
 pub symbol_given : (root : RootView) (module_id : ModuleId) (name : IdView) (found : Option SymbolId) → module_id.0 < length root.stored
-    → found ≡ symbol_of_ident_after_changes (changes_of_module root.graph (specifier_in root module_id)) name
+    → found ≡ symbol_of_ident_after_changes (table_changes_of_module root.graph (specifier_in root module_id)) name
     → IsQuestionAnswerReturned root root (specifier_in root module_id) (query_symbol name) (answer_symbol found)
 symbol_given root module_id name found known same = record {
   answers = ap (λ s. Some (answer_symbol s)) (sym same);
@@ -301,15 +301,16 @@ exports_refused old new module_id f steps known (inr is) = inr (record {
 
 -- ---- public names
 
-pub names_given : (old new : RootView) (module_id : ModuleId) (names : List PublicNameView) → HasGrown old new → IsPublicNamesCallResult old new module_id names
-    → AllPairs (λ (x y : PublicNameView). x ≢ y) names → AreExportListsCorrectAndUnique old.graph (specifier_in old module_id)
+pub names_given : (old new : RootView) (module_id : ModuleId) (names : List ExportedNameWithMember) → HasGrown old new
+    → IsPublicNamesCallResult old new module_id names
+    → AllPairs (λ (x y : ExportedNameWithMember). x ≢ y) names → AreExportListsCorrectAndUnique old.graph (specifier_in old module_id)
     → IsQuestionAnswerReturned old new (specifier_in old module_id) query_names (answer_names names)
 names_given old new module_id names grown is once listed = record {
-  answers = ap (λ (xs : List PublicNameView). Some (answer_names xs)) (sym is.are_public_names);
+  answers = ap (λ (xs : List ExportedNameWithMember). Some (answer_names xs)) (sym is.are_public_names);
   is_right_answer = record {
     entries = exports_of old.graph (specifier_in old module_id);
     are_exports = listed.are_exports;
-    has_no_duplicates = subst (AllPairs (λ (x y : PublicNameView). x ≢ y)) is.are_public_names once;
+    has_no_duplicates = subst (AllPairs (λ (x y : ExportedNameWithMember). x ≢ y)) is.are_public_names once;
     answer_is = ap answer_names is.are_public_names;
   };
   stored = record {

@@ -10,7 +10,7 @@ use Rattle.symbols_ast.specs.declared.ids.ModuleId.{ModuleId}
 use Rattle.symbols_table.specs.declared.info.fault.SymbolsFault.{SymbolsFault}
 use Rattle.symbols_table.specs.declared.info.fault.SymbolsFault.TheVariants.{OutOfMemory}
 use Rattle.symbols_root.specs.Growing.{HasGrown}
-use Rattle.symbols_root.specs.Roots.{RootView, with_stored_module, maybe_specifier, specifier_in, widest_limits, IsStoringFault}
+use Rattle.symbols_root.specs.Roots.{RootView, root_with_stored_module, maybe_specifier, specifier_in, widest_limits, IsStoringFault}
 use Rattle.symbols_root.specs.TypesChains.{resolved_module_specifier}
 use Rattle.symbols_root.specs.laws.Growing.{has_grown_refl, has_grown_trans, has_grown_by_stored_module}
 use Rattle.symbols_root.specs.laws.Calls.{fails_only_for_out_of_memory}
@@ -18,35 +18,37 @@ use Rattle.symbols_root.specs.laws.Numbers.{id_is_that_of_found_module, no_id_no
 use Rattle.symbols_paths.specs.NeededModules.{IsFaultOfStoringOneOf, AreNewlyStoredAmong}
 use Rattle.symbols_paths.specs.laws.Storing.{newly_stored_none, newly_stored_by_two_calls, newly_stored_needed_module}
 use Rattle.symbols_answers.specs.Questions.{QuestionView, QueryView}
-use Rattle.symbols_answers.specs.QueryReach.{IsRequestedByQuery}
+use Rattle.symbols_answers.specs.QueryReach.{IsSpecifierRequestedByQuery}
 use Rattle.symbols_answers.specs.Stored.{AreRequestedModulesStored}
-use Rattle.symbols_answers.specs.InputLists.{with_targets, walk_from, walk_limit, followed_specifiers, with_requests, with_import_type}
-use Rattle.symbols_answers.specs.InputLists.{requested_specifiers}
-use Rattle.symbols_answers.specs.laws.Walks.{BeginsWith, begun_at, several_begins, walk_over, walk_on, step_holds}
-use Rattle.symbols_answers.specs.laws.SeenLists.{requests_at, requests_added, request_passes, first_requested, requested_listed}
+use Rattle.symbols_answers.specs.InputLists.{append_resolved_specifiers, list_grown_by_walk_from_index, walk_limit, followed_specifiers}
+use Rattle.symbols_answers.specs.InputLists.{append_requested_specifiers, append_resolved_import_type, requested_specifiers}
+use Rattle.symbols_answers.specs.laws.Walks.{BeginsWith, beginning_agrees_at_index, appended_list_begins_with_old, walk_past_end_adds_nothing}
+use Rattle.symbols_answers.specs.laws.Walks.{walk_takes_step_at_index, step_holds}
+use Rattle.symbols_answers.specs.laws.SeenLists.{specifiers_requested_from_module, append_requested_is_step_that_appends, requested_by_requested_is_requested}
+use Rattle.symbols_answers.specs.laws.SeenLists.{queried_and_import_type_are_requested, requested_specifiers_are_listed}
 use Rattle.symbols_queries.specs.QueryFaults.{IsNeededForInputs}
-use Rattle.symbols_queries.specs.inner.SpecifierLists.{KeepsForInputs}
+use Rattle.symbols_queries.specs.inner.SpecifierLists.{HasGrownAndInputsFailOnlyStoring}
 use Rattle.symbols_queries.proofs.Storing.{still_there, stored_there}
 
 -- the specifiers before the index have added what they request, and the modules that they resolve to are stored
 pub record IsRequesting (old now : RootView) (query : QueryView) (list : List (List ℕ)) (index : ℕ) : Type 0 where
   pub more : ℕ
   pub enough : walk_limit ≤ more + index
-  pub walk : walk_from (with_requests old.graph query.question) more index list ≡ requested_specifiers old.graph query
+  pub walk : list_grown_by_walk_from_index (append_requested_specifiers old.graph query.question) more index list ≡ requested_specifiers old.graph query
   pub grown : HasGrown old now
   pub stores : AreNewlyStoredAmong old now (IsNeededForInputs old.graph query)
-  pub sound : (x : List ℕ) → Contains list x → IsRequestedByQuery old.graph query x
+  pub sound : (x : List ℕ) → Contains list x → IsSpecifierRequestedByQuery old.graph query x
   pub done : (k : ℕ) → k < index → (d v : List ℕ) → resolved_module_specifier old.graph (get_or list k d) ≡ Some v → Contains now.stored v
 
-pub requesting_first : (root : RootView) (query : QueryView) (list : List (List ℕ)) → list ≡ with_import_type root.graph query (query.specifier ∷ [])
+pub requesting_first : (root : RootView) (query : QueryView) (list : List (List ℕ)) → list ≡ append_resolved_import_type root.graph query (query.specifier ∷ [])
     → IsRequesting root root query list 0
 requesting_first root query list is = record {
   more = walk_limit;
   enough = omega arith;
-  walk = ap (walk_from (with_requests root.graph query.question) walk_limit 0) is;
+  walk = ap (list_grown_by_walk_from_index (append_requested_specifiers root.graph query.question) walk_limit 0) is;
   grown = has_grown_refl root;
   stores = newly_stored_none root;
-  sound = λ x has. first_requested root.graph query x (subst (λ (l : List (List ℕ)). Contains l x) is has);
+  sound = λ x has. queried_and_import_type_are_requested root.graph query x (subst (λ (l : List (List ℕ)). Contains l x) is has);
   done = λ k before d v at. absurd (omega (arith, before));
 }
 
@@ -61,18 +63,20 @@ needed_here old now query list index key v is at resolves = (
 
 -- the walk has steps left
 steps_left : (old now : RootView) (query : QueryView) (list : List (List ℕ)) (index : ℕ) → IsRequesting old now query list index → index < 2 ^ 63
-    → (n : ℕ) × (walk_limit ≤ n + (index + 1)) × (walk_from (with_requests old.graph query.question) (suc n) index list ≡ requested_specifiers old.graph query)
+    → (n : ℕ) × (walk_limit ≤ n + (index + 1)) × (list_grown_by_walk_from_index (append_requested_specifiers old.graph query.question) (suc n) index list
+    ≡ requested_specifiers old.graph query)
 steps_left old now query list index is few = by is.more is.enough is.walk
   where
-    by : (more : ℕ) → walk_limit ≤ more + index → walk_from (with_requests old.graph query.question) more index list ≡ requested_specifiers old.graph query
+    by : (more : ℕ) → walk_limit ≤ more + index → list_grown_by_walk_from_index (append_requested_specifiers old.graph query.question) more index list
+        ≡ requested_specifiers old.graph query
         → (n : ℕ) × (walk_limit ≤ n + (index + 1))
-        × (walk_from (with_requests old.graph query.question) (suc n) index list ≡ requested_specifiers old.graph query)
+        × (list_grown_by_walk_from_index (append_requested_specifiers old.graph query.question) (suc n) index list ≡ requested_specifiers old.graph query)
     by zero enough walk = absurd (omega (arith, enough, few))
     by (suc n) enough walk = (n, omega (arith, enough), walk)
 
 -- what is stored when the next specifier is resolved
 pub stored_so_far : (old now new : RootView) (query : QueryView) (list : List (List ℕ)) (index : ℕ) (key : List ℕ) → IsRequesting old now query list index
-    → slice_get list index ≡ Some key → new ≡ with_stored_module now (resolved_module_specifier now.graph key)
+    → slice_get list index ≡ Some key → new ≡ root_with_stored_module now (resolved_module_specifier now.graph key)
     → AreNewlyStoredAmong old new (IsNeededForInputs old.graph query)
 stored_so_far old now new query list index key is at stored =
     newly_stored_by_two_calls is.stores (newly_stored_needed_module now new (resolved_module_specifier now.graph key) stored)
@@ -80,7 +84,7 @@ stored_so_far old now new query list index key is at stored =
 
 pub requesting_next : (old now new : RootView) (query : QueryView) (list further : List (List ℕ)) (index : ℕ) (key : List ℕ)
     → IsRequesting old now query list index → length list ≤ 2 ^ 63 → slice_get list index ≡ Some key
-    → new ≡ with_stored_module now (resolved_module_specifier now.graph key) → further ≡ with_requests now.graph query.question key list
+    → new ≡ root_with_stored_module now (resolved_module_specifier now.graph key) → further ≡ append_requested_specifiers now.graph query.question key list
     → IsRequesting old new query further (index + 1)
 requesting_next old now new query list further index key is few at stored added =
     let within = slice_get_within list index key at in
@@ -88,14 +92,17 @@ requesting_next old now new query list further index key is few at stored added 
     record {
       more = left.0;
       enough = left.1;
-      walk = subst (λ (l : List (List ℕ)). walk_from (with_requests old.graph query.question) left.0 (index + 1) l ≡ requested_specifiers old.graph query)
-          (sym added_then) (subst (λ (j : ℕ). walk_from (with_requests old.graph query.question) left.0 j (with_requests old.graph query.question key list)
+      walk = subst (λ (l : List (List ℕ)). list_grown_by_walk_from_index (append_requested_specifiers old.graph query.question) left.0 (index + 1) l
+          ≡ requested_specifiers old.graph query)
+          (sym added_then) (subst (λ (j : ℕ). list_grown_by_walk_from_index (append_requested_specifiers old.graph query.question) left.0 j
+          (append_requested_specifiers old.graph query.question key list)
           ≡ requested_specifiers old.graph query) (omega arith)
-          (sym (walk_on (with_requests old.graph query.question) left.0 index list key at) ∙ left.2));
+          (sym (walk_takes_step_at_index (append_requested_specifiers old.graph query.question) left.0 index list key at) ∙ left.2));
       grown = has_grown_trans is.grown grown_now;
       stores = stored_so_far old now new query list index key is at stored;
-      sound = λ x has. step_holds (with_requests old.graph query.question) (requests_at old.graph query.question) (requests_added old.graph query.question)
-          (IsRequestedByQuery old.graph query) (request_passes old.graph query) key list here is.sound x
+      sound = λ x has. step_holds (append_requested_specifiers old.graph query.question) (specifiers_requested_from_module old.graph query.question)
+          (append_requested_is_step_that_appends old.graph query.question)
+          (IsSpecifierRequestedByQuery old.graph query) (requested_by_requested_is_requested old.graph query) key list here is.sound x
           (subst (λ (l : List (List ℕ)). Contains l x) added_then has);
       done = λ k before d v resolves. elim (before_or_here k (omega (arith, before))) [
         | inl earlier ↦ still_there now new v grown_now (is.done k earlier d v
@@ -107,18 +114,18 @@ requesting_next old now new query list further index key is few at stored added 
     grown_now : HasGrown now new
     grown_now = subst (HasGrown now) (sym stored) (has_grown_by_stored_module now (resolved_module_specifier now.graph key))
 
-    added_then : further ≡ with_requests old.graph query.question key list
-    added_then = subst (λ (g : GraphView). further ≡ with_requests g query.question key list) is.grown.graph added
+    added_then : further ≡ append_requested_specifiers old.graph query.question key list
+    added_then = subst (λ (g : GraphView). further ≡ append_requested_specifiers g query.question key list) is.grown.graph added
 
-    here : IsRequestedByQuery old.graph query key
+    here : IsSpecifierRequestedByQuery old.graph query key
     here = is.sound key (index, slice_get_within list index key at, get_or_from_slice_get list index key key at)
 
     begins : BeginsWith list further
-    begins = subst (BeginsWith list) (sym (added_then ∙ (requests_added old.graph query.question).is key list))
-        (several_begins (requests_at old.graph query.question key) list)
+    begins = subst (BeginsWith list) (sym (added_then ∙ (append_requested_is_step_that_appends old.graph query.question).is key list))
+        (appended_list_begins_with_old (specifiers_requested_from_module old.graph query.question key) list)
 
     unchanged : (k : ℕ) (d : List ℕ) → k < length list → get_or further k d ≡ get_or list k d
-    unchanged k d inside = begun_at list further k d begins inside
+    unchanged k d inside = beginning_agrees_at_index list further k d begins inside
 
     before_or_here : (k : ℕ) → k ≤ index → (k < index) ⊎ (k ≡ index)
     before_or_here k le = grind (arith, le)
@@ -130,18 +137,18 @@ requesting_next old now new query list further index key is few at stored added 
         let found : resolved_module_specifier now.graph key ≡ Some v =
         subst (λ (g : GraphView). resolved_module_specifier g key ≡ Some v) (sym is.grown.graph)
         (subst (λ (w : List ℕ). resolved_module_specifier old.graph w ≡ Some v) key_is resolves) in
-        subst (λ (root : RootView). Contains root.stored v) (sym (stored ∙ ap (with_stored_module now) found)) (stored_there now v)
+        subst (λ (root : RootView). Contains root.stored v) (sym (stored ∙ ap (root_with_stored_module now) found)) (stored_there now v)
 
 -- the same by the number of the module that the specifier resolves to
 pub requesting_next_by : (old now new : RootView) (query : QueryView) (list further : List (List ℕ)) (index : ℕ) (key : List ℕ) (found : Option ModuleId)
     → IsRequesting old now query list index → length list ≤ 2 ^ 63 → slice_get list index ≡ Some key
-    → new ≡ with_stored_module now (resolved_module_specifier now.graph key) → new.graph ≡ now.graph
+    → new ≡ root_with_stored_module now (resolved_module_specifier now.graph key) → new.graph ≡ now.graph
     → option_map (maybe_specifier new) found ≡ option_map (λ (s : List ℕ). Some s) (resolved_module_specifier now.graph key)
     → ((k : List ℕ) → option_map (maybe_specifier new) found ≡ option_map (λ (s : List ℕ). Some s) (resolved_module_specifier new.graph k)
-    → further ≡ with_requests new.graph query.question k list) → IsRequesting old new query further (index + 1)
+    → further ≡ append_requested_specifiers new.graph query.question k list) → IsRequesting old new query further (index + 1)
 requesting_next_by old now new query list further index key found is few at stored same gives requests =
     requesting_next old now new query list further index key is few at stored
-    (subst (λ (g : GraphView). further ≡ with_requests g query.question key list) same (requests key
+    (subst (λ (g : GraphView). further ≡ append_requested_specifiers g query.question key list) same (requests key
     (subst (λ (g : GraphView). option_map (maybe_specifier new) found ≡ option_map (λ (s : List ℕ). Some s) (resolved_module_specifier g key)) (sym same)
     gives)))
 
@@ -158,14 +165,15 @@ requesting_refused old now new query list index key f is at unchanged refused = 
 -- at the end all are listed, and the modules that they resolve to are stored
 pub requesting_over : (old now : RootView) (query : QueryView) (list : List (List ℕ)) (index : ℕ) → IsRequesting old now query list index
     → slice_get list index ≡ None → list ≡ requested_specifiers old.graph query
-requesting_over old now query list index is past = sym (walk_over (with_requests old.graph query.question) is.more index list past) ∙ is.walk
+requesting_over old now query list index is past = sym (walk_past_end_adds_nothing (append_requested_specifiers old.graph query.question) is.more index list
+    past) ∙ is.walk
 
 pub requested_stored : (old now : RootView) (query : QueryView) (list : List (List ℕ)) (index : ℕ) → IsRequesting old now query list index
     → length list ≤ 2 ^ 63 → slice_get list index ≡ None → AreRequestedModulesStored now query
 requested_stored old now query list index is few past key v requested resolves =
     let over = requesting_over old now query list index is past in
-    let listed = requested_listed old.graph query (omega (arith, few, ap length over)) key
-    (subst (λ (g : GraphView). IsRequestedByQuery g query key) is.grown.graph requested) in
+    let listed = requested_specifiers_are_listed old.graph query (omega (arith, few, ap length over)) key
+    (subst (λ (g : GraphView). IsSpecifierRequestedByQuery g query key) is.grown.graph requested) in
     let at = subst (λ (l : List (List ℕ)). Contains l key) (sym over) listed in
     is.done at.0 (inside at.0 at.1) key v (subst (λ (w : List ℕ). resolved_module_specifier old.graph w ≡ Some v) (sym at.2)
     (subst (λ (g : GraphView). resolved_module_specifier g key ≡ Some v) is.grown.graph resolves))
@@ -180,17 +188,18 @@ requested_stored old now query list index is few past key v requested resolves =
 
 pub requests_found : (root : RootView) (question : QuestionView) (module_id : ModuleId) (key : List ℕ) (list new : List (List ℕ))
     → Some (maybe_specifier root module_id) ≡ option_map (λ s. Some s) (resolved_module_specifier root.graph key)
-    → new ≡ with_targets root.graph (specifier_in root module_id) list (followed_specifiers root.graph question (specifier_in root module_id))
-    → new ≡ with_requests root.graph question key list
+    → new ≡ append_resolved_specifiers root.graph (specifier_in root module_id) list (followed_specifiers root.graph question (specifier_in root module_id))
+    → new ≡ append_requested_specifiers root.graph question key list
 requests_found root question module_id key list new gives added =
-    added ∙ sym (ap (λ (found : Option (List ℕ)). option_map_or (λ u. with_targets root.graph u list (followed_specifiers root.graph question u)) found list)
-    (id_is_that_of_found_module root module_id (resolved_module_specifier root.graph key) gives).is)
+    added ∙ sym (ap (λ (found : Option (List ℕ)). option_map_or (λ u. append_resolved_specifiers root.graph u list (followed_specifiers root.graph question u))
+    found list) (id_is_that_of_found_module root module_id (resolved_module_specifier root.graph key) gives).is)
 
 pub nothing_requested : (root : RootView) (question : QuestionView) (key : List ℕ) (list new : List (List ℕ))
-    → None ≡ option_map (λ (s : List ℕ). Some s) (resolved_module_specifier root.graph key) → new ≡ list → new ≡ with_requests root.graph question key list
+    → None ≡ option_map (λ (s : List ℕ). Some s) (resolved_module_specifier root.graph key) → new ≡ list → new ≡ append_requested_specifiers root.graph question
+    key list
 nothing_requested root question key list new gives same =
-    same ∙ sym (ap (λ (found : Option (List ℕ)). option_map_or (λ u. with_targets root.graph u list (followed_specifiers root.graph question u)) found list)
-    (no_id_no_module_found (resolved_module_specifier root.graph key) gives))
+    same ∙ sym (ap (λ (found : Option (List ℕ)). option_map_or (λ u. append_resolved_specifiers root.graph u list (followed_specifiers root.graph question u))
+    found list) (no_id_no_module_found (resolved_module_specifier root.graph key) gives))
 
 -- ---- of a call
 
@@ -198,7 +207,7 @@ nothing_requested root question key list new gives same =
 pub keeps_at_err : {A : Type 0} (old now new : RootView) (query : QueryView) (list : List (List ℕ)) (index : ℕ) (key : List ℕ) (f : SymbolsFault)
     → IsRequesting old now query list index → slice_get list index ≡ Some key → new ≡ now → HasGrown now new
     → IsStoringFault now (resolved_module_specifier now.graph key) f → (now.limits ≡ widest_limits → f ≡ OutOfMemory)
-    → KeepsForInputs {A = A} old new query (Err f)
+    → HasGrownAndInputsFailOnlyStoring {A = A} old new query (Err f)
 keeps_at_err old now new query list index key f is at unchanged grown refused enough = record {
   keeps = record {
     grown = has_grown_trans is.grown grown;
@@ -209,7 +218,8 @@ keeps_at_err old now new query list index key f is at unchanged grown refused en
 }
 
 pub keeps_out_of_memory : {A : Type 0} (old new : RootView) (query : QueryView) (result : Result A SymbolsFault) → HasGrown old new
-    → AreNewlyStoredAmong old new (IsNeededForInputs old.graph query) → IsErrAnd result (λ f. f ≡ OutOfMemory) → KeepsForInputs old new query result
+    → AreNewlyStoredAmong old new (IsNeededForInputs old.graph query) → IsErrAnd result (λ f. f ≡ OutOfMemory) → HasGrownAndInputsFailOnlyStoring old new query
+    result
 keeps_out_of_memory old new query result grown stores is = record {
   keeps = fails_only_for_out_of_memory result grown is (record { needed = None; is_needed = λ v e. absurd (none-some v e); refused = tt });
   stores = stores;
@@ -217,5 +227,5 @@ keeps_out_of_memory old new query result grown stores is = record {
 
 pub keeps_at_ok : {A : Type 0} (old new : RootView) (query : QueryView) (x : A) → HasGrown old new → AreNewlyStoredAmong old new
     (IsNeededForInputs old.graph query)
-    → KeepsForInputs old new query (Ok x)
+    → HasGrownAndInputsFailOnlyStoring old new query (Ok x)
 keeps_at_ok old new query x grown stores = record { keeps = record { grown = grown; refused = tt; enough = λ wide. tt }; stores = stores }

@@ -14,8 +14,8 @@ use Rattle.symbols_table.specs.declared.info.fault.SymbolsFault.{SymbolsFault}
 use Rattle.symbols_table.specs.declared.info.fault.SymbolsFault.TheVariants as fault
 use Rattle.symbols_root.specs.declared.rules.Rules.{Rules}
 use Rattle.symbols_root.specs.Growing.{HasGrown}
-use Rattle.symbols_root.specs.Calls.{CanResolvingFail}
-use Rattle.symbols_root.specs.Roots.{RootView, with_stored_module, maybe_specifier, specifier_in, IsStoringFault}
+use Rattle.symbols_root.specs.Calls.{IsUnstoredOrHasTypesDependency}
+use Rattle.symbols_root.specs.Roots.{RootView, root_with_stored_module, maybe_specifier, specifier_in, IsStoringFault}
 use Rattle.symbols_root.specs.TypesChains.{types_chain, resolved_module_specifier, IsUniqueTypesChain}
 use Rattle.symbols_root.specs.laws.Growing.{has_grown_refl, has_grown_trans, has_grown_by_stored_module}
 use Rattle.symbols_root.specs.laws.Numbers.{id_is_that_of_found_module, no_id_no_module_found}
@@ -26,7 +26,7 @@ use Rattle.symbols_answers.specs.Answers.{AnswerView, answer_no_module}
 use Rattle.symbols_answers.specs.QueryAnswers.{question_answer, answer_in_form, query_answer}
 use Rattle.symbols_answers.specs.Meanings.{IsAnswerToQuestion, last_analyzable_module, IsAnswerInForm, IsAnswerToQuery}
 use Rattle.symbols_answers.specs.Stored.{modules_of_answer, AreAnswerModulesStored, AreRequestedModulesStored, AreModulesStoredInForm, AreQueryModulesStored}
-use Rattle.symbols_answers.specs.QueryReach.{IsRequestedByQuery}
+use Rattle.symbols_answers.specs.QueryReach.{IsSpecifierRequestedByQuery}
 use Rattle.symbols_paths.specs.NeededModules.{AreNewlyStoredAmong}
 use Rattle.symbols_paths.specs.laws.Storing.{newly_stored_none, newly_stored_among_more, newly_stored_by_two_calls, newly_stored_needed_module}
 use Rattle.symbols_queries.specs.declared.answer.Answer.{Answer}
@@ -45,20 +45,20 @@ use Rattle.symbols_queries.proofs.Storing.{all_still_there, still_there}
 -- the module that the specifier resolves to, by its number in the root that has stored it
 pub record IsQueried (old mid : RootView) (module_id : ModuleId) (query : QueryView) : Type 0 where
   pub grown : HasGrown old mid
-  pub stored : mid ≡ with_stored_module old (resolved_module_specifier old.graph query.specifier)
+  pub stored : mid ≡ root_with_stored_module old (resolved_module_specifier old.graph query.specifier)
   pub occurs : resolved_module_specifier old.graph query.specifier ≡ Some (specifier_in mid module_id)
   pub within : module_id.0 < length mid.stored
   pub chain : IsUniqueTypesChain old.graph query.specifier (types_chain old.graph query.specifier)
 
 pub queried_first : (old mid : RootView) (module_id : ModuleId) (specifier : List ℕ) (query : QueryView) → specifier ≡ query.specifier
-    → mid ≡ with_stored_module old (resolved_module_specifier old.graph specifier) → Some (maybe_specifier mid module_id)
+    → mid ≡ root_with_stored_module old (resolved_module_specifier old.graph specifier) → Some (maybe_specifier mid module_id)
     ≡ option_map (λ (s : List ℕ). Some s) (resolved_module_specifier old.graph specifier)
     → IsUniqueTypesChain old.graph specifier (types_chain old.graph specifier) → IsQueried old mid module_id query
 queried_first old mid module_id specifier query same stored gives chain =
     let found = id_is_that_of_found_module mid module_id (resolved_module_specifier old.graph specifier) gives in
     record {
       grown = subst (HasGrown old) (sym stored) (has_grown_by_stored_module old (resolved_module_specifier old.graph specifier));
-      stored = subst (λ (text : List ℕ). mid ≡ with_stored_module old (resolved_module_specifier old.graph text)) same stored;
+      stored = subst (λ (text : List ℕ). mid ≡ root_with_stored_module old (resolved_module_specifier old.graph text)) same stored;
       occurs = subst (λ (text : List ℕ). resolved_module_specifier old.graph text ≡ Some (specifier_in mid module_id)) same found.is;
       within = found.within;
       chain = subst (λ (text : List ℕ). IsUniqueTypesChain old.graph text (types_chain old.graph text)) same chain;
@@ -131,7 +131,8 @@ none_given old mid specifier query form same grown gives chain =
 
 -- the module that the specifier resolves to
 pub stores_queried : (old mid : RootView) (specifier : List ℕ) (query : QueryView) → specifier ≡ query.specifier
-    → mid ≡ with_stored_module old (resolved_module_specifier old.graph specifier) → AreNewlyStoredAmong old mid (CanBeStoredByQuery old.rules old.graph query)
+    → mid ≡ root_with_stored_module old (resolved_module_specifier old.graph specifier)
+    → AreNewlyStoredAmong old mid (CanBeStoredByQuery old.rules old.graph query)
 stores_queried old mid specifier query same stored = newly_stored_among_more
     (newly_stored_needed_module old mid (resolved_module_specifier old.graph specifier) stored)
     (λ v e. inl (subst (λ (text : List ℕ). resolved_module_specifier old.graph text ≡ Some v) same e))
@@ -175,11 +176,11 @@ query_refused old mid new module_id query f form queried grown only (inr is) = i
 }))
 
 pub module_refused : (old new : RootView) (specifier : List ℕ) (query : QueryView) (f : SymbolsFault) → specifier ≡ query.specifier → new ≡ old
-    → IsStoringFault old (resolved_module_specifier old.graph specifier) f → CanResolvingFail old specifier → IsQueryFault old new query f
+    → IsStoringFault old (resolved_module_specifier old.graph specifier) f → IsUnstoredOrHasTypesDependency old specifier → IsQueryFault old new query f
 module_refused old new specifier query f same unchanged refusal can_fail =
     inr (inl (record {
       refused = subst (λ (text : List ℕ). IsStoringFault old (resolved_module_specifier old.graph text) f) same refusal;
-      can_fail = subst (CanResolvingFail old) same can_fail;
+      can_fail = subst (IsUnstoredOrHasTypesDependency old) same can_fail;
       unchanged = unchanged;
     }))
 
@@ -310,7 +311,7 @@ still_stored_by_module old new query given grown is = subst (λ (g : GraphView).
 still_stored_for_inputs : (old new : RootView) (query : QueryView) → HasGrown old new → AreRequestedModulesStored old query
     → AreRequestedModulesStored new query
 still_stored_for_inputs old new query grown stored key v requested at =
-    still_there old new v grown (stored key v (subst (λ (g : GraphView). IsRequestedByQuery g query key) grown.graph requested)
+    still_there old new v grown (stored key v (subst (λ (g : GraphView). IsSpecifierRequestedByQuery g query key) grown.graph requested)
     (subst (λ (g : GraphView). resolved_module_specifier g key ≡ Some v) grown.graph at))
 
 still_stored_for : (old new : RootView) (query : QueryView) (given : AnswerView) → HasGrown old new → AreQueryModulesStored old query given

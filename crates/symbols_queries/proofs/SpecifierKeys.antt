@@ -9,7 +9,7 @@ use Rattle.std.proofs.lemmas.List.{map-append}
 use Rattle.std.proofs.lemmas.Option.{slice_get-map}
 use Rattle.indexmap.specs.IndexSet.{insert_key}
 use Rattle.symbols_root.specs.Specifiers.{contains_specifier}
-use Rattle.symbols_answers.specs.InputLists.{with_specifier}
+use Rattle.symbols_answers.specs.InputLists.{append_specifier_if_absent}
 use Rattle.symbols_queries.specs.inner.SpecifierLists.{specifiers_of_keys}
 
 -- a specifier after the first
@@ -24,7 +24,7 @@ among_keys [] q = refl
 among_keys (key ∷ keys) q = ap (λ b. bytes_eq q key.now || b) (among_keys keys q)
 
 inserted : (keys : List (Bor (List ℕ))) (key : Bor (List ℕ))
-    → specifiers_of_keys (insert_key (λ (x y : Bor (List ℕ)). bytes_eq x.now y.now) keys key) ≡ with_specifier (specifiers_of_keys keys) key.now
+    → specifiers_of_keys (insert_key (λ (x y : Bor (List ℕ)). bytes_eq x.now y.now) keys key) ≡ append_specifier_if_absent (specifiers_of_keys keys) key.now
 inserted keys key = by (list_any (λ (x : Bor (List ℕ)). bytes_eq key.now x.now) keys) (contains_specifier (specifiers_of_keys keys) key.now)
     (among_keys keys key.now)
   where
@@ -40,7 +40,7 @@ inserted keys key = by (list_any (λ (x : Bor (List ℕ)). bytes_eq key.now x.no
 -- the list after another specifier than the first was inserted in the set
 pub added_other : (first : List ℕ) (keys new : List (Bor (List ℕ))) (key : Bor (List ℕ)) → bytes_eq key.now first ≡ false
     → new ≡ insert_key (λ (x y : Bor (List ℕ)). bytes_eq x.now y.now) keys key
-    → first ∷ specifiers_of_keys new ≡ with_specifier (first ∷ specifiers_of_keys keys) key.now
+    → first ∷ specifiers_of_keys new ≡ append_specifier_if_absent (first ∷ specifiers_of_keys keys) key.now
 added_other first keys new key other is =
     ap (λ (ks : List (Bor (List ℕ))). first ∷ specifiers_of_keys ks) is
     ∙ (ap (λ (xs : List (List ℕ)). first ∷ xs) (inserted keys key) ∙ (by (contains_specifier (specifiers_of_keys keys) key.now)
@@ -54,7 +54,7 @@ added_other first keys new key other is =
 
 -- the first specifier is in the list already
 pub added_first : (first : List ℕ) (keys : List (Bor (List ℕ))) (s : List ℕ) → bytes_eq s first ≡ true
-    → first ∷ specifiers_of_keys keys ≡ with_specifier (first ∷ specifiers_of_keys keys) s
+    → first ∷ specifiers_of_keys keys ≡ append_specifier_if_absent (first ∷ specifiers_of_keys keys) s
 added_first first keys s same =
     ap (λ b. if (b || contains_specifier (specifiers_of_keys keys) s) then first ∷ specifiers_of_keys keys
     else first ∷ specifiers_of_keys keys ++ s ∷ []) (sym same)

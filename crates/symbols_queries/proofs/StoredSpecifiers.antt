@@ -11,16 +11,16 @@ use Rattle.symbols_ast.specs.declared.ids.SymbolId.{SymbolId}
 use Rattle.symbols_ast.specs.Graph.{GraphView}
 use Rattle.symbols_table.specs.declared.decl.symbol.Symbol.{Symbol}
 use Rattle.symbols_table.specs.Analysis.{symbol_count}
-use Rattle.symbols_table.specs.Changes.{ExportStarStatement, parents_after, export_stars_after}
+use Rattle.symbols_table.specs.Changes.{ExportStarStatement, parents_after_changes, export_stars_after_changes}
 use Rattle.symbols_table.specs.Modules.{SymbolTable}
 use Rattle.symbols_table.specs.Symbols.{symbol_decls}
 use Rattle.symbols_table.specs.SymbolViews.{SymbolView, symbol_view, symbol_from_changes}
-use Rattle.symbols_root.specs.GraphModules.{changes_of_module, symbol_in_module}
+use Rattle.symbols_root.specs.GraphModules.{table_changes_of_module, symbol_in_module}
 use Rattle.symbols_root.specs.Roots.{RootView, specifier_in, IsTableOfStoredModule}
 use Rattle.symbols_root.specs.laws.StoredTables.{stored_table_has_module_changes, stored_table_has_module_symbols}
 use Rattle.symbols_exports.specs.StarStatements.{star_specifiers}
 use Rattle.symbols_paths.specs.DeclTargets.{declarations_of}
-use Rattle.symbols_answers.specs.InputLists.{with_targets, declarations_in_module, import_specifiers_among, import_specifiers}
+use Rattle.symbols_answers.specs.InputLists.{append_resolved_specifiers, declarations_in_module, import_specifiers_among, import_specifiers}
 use Rattle.symbols_answers.specs.InputLists.{star_and_import_specifiers}
 use Rattle.symbols_queries.proofs.TargetLists.{targets_joined}
 
@@ -55,22 +55,22 @@ module _ (root : RootView) (module_id : ModuleId) (table : SymbolTable) (stored 
 
   pub stars_are : map (λ (star : ExportStarStatement). star.specifier_text) table.stars ≡ star_specifiers root.graph (specifier_in root module_id)
   stars_are = ap (map (λ (star : ExportStarStatement). star.specifier_text)) (stored.2.is_analyzed_table.tables.stars
-      ∙ ap export_stars_after (sym (stored_table_has_module_changes root module_id table stored)))
+      ∙ ap export_stars_after_changes (sym (stored_table_has_module_changes root module_id table stored)))
 
   symbols_there : (k : ℕ) → option_map symbol_view (slice_get table.symbols k) ≡ symbol_in_module root.graph (specifier_in root module_id) (record { 0 = k })
   symbols_there k = stored_table_has_module_symbols root module_id table stored (record { 0 = k })
 
-  counted : length (map symbol_decls table.symbols) ≡ symbol_count (changes_of_module root.graph (specifier_in root module_id))
+  counted : length (map symbol_decls table.symbols) ≡ symbol_count (table_changes_of_module root.graph (specifier_in root module_id))
   counted =
-      let changes = changes_of_module root.graph (specifier_in root module_id) in
+      let changes = table_changes_of_module root.graph (specifier_in root module_id) in
       length-map table.symbols symbol_decls
-      ∙ same_length (λ (x : Symbol). tt {0}) (λ (p : Option SymbolId). tt {0}) table.symbols (parents_after changes)
-      (λ k. some_alike (slice_get table.symbols k) (slice_get (parents_after changes) k) symbol_view (symbol_from_changes changes (record { 0 = k }))
+      ∙ same_length (λ (x : Symbol). tt {0}) (λ (p : Option SymbolId). tt {0}) table.symbols (parents_after_changes changes)
+      (λ k. some_alike (slice_get table.symbols k) (slice_get (parents_after_changes changes) k) symbol_view (symbol_from_changes changes (record { 0 = k }))
       (symbols_there k))
 
   imports_are : map symbol_decls table.symbols ≡ declarations_in_module root.graph (specifier_in root module_id)
   imports_are = fill_by_all (λ n. declarations_of root.graph (record { specifier = specifier_in root module_id; number = record { 0 = n } }))
-      (map symbol_decls table.symbols) (symbol_count (changes_of_module root.graph (specifier_in root module_id))) [] counted
+      (map symbol_decls table.symbols) (symbol_count (table_changes_of_module root.graph (specifier_in root module_id))) [] counted
       (λ k within. each k (omega (arith, within, counted, length-map table.symbols symbol_decls)))
     where
       each : (k : ℕ) → k < length table.symbols
@@ -88,18 +88,18 @@ module _ (root : RootView) (module_id : ModuleId) (table : SymbolTable) (stored 
   -- ---- what they resolve to
 
   pub stars_requested : (graph : GraphView) (old new : List (List ℕ)) → graph ≡ root.graph
-      → new ≡ with_targets graph table.specifier old (map (λ (star : ExportStarStatement). star.specifier_text) table.stars)
-      → new ≡ with_targets root.graph (specifier_in root module_id) old (star_specifiers root.graph (specifier_in root module_id))
-  stars_requested graph old new same added = added ∙ (λ i. with_targets (same i) (specifier_is i) old (stars_are i))
+      → new ≡ append_resolved_specifiers graph table.specifier old (map (λ (star : ExportStarStatement). star.specifier_text) table.stars)
+      → new ≡ append_resolved_specifiers root.graph (specifier_in root module_id) old (star_specifiers root.graph (specifier_in root module_id))
+  stars_requested graph old new same added = added ∙ (λ i. append_resolved_specifiers (same i) (specifier_is i) old (stars_are i))
 
   pub stars_and_imports_requested : (graph : GraphView) (old mid new : List (List ℕ)) → graph ≡ root.graph
-      → mid ≡ with_targets graph table.specifier old (map (λ (star : ExportStarStatement). star.specifier_text) table.stars)
-      → new ≡ with_targets graph table.specifier mid (flat_map (λ (s : Symbol). import_specifiers_among (symbol_decls s)) table.symbols)
-      → new ≡ with_targets root.graph (specifier_in root module_id) old (star_and_import_specifiers root.graph (specifier_in root module_id))
+      → mid ≡ append_resolved_specifiers graph table.specifier old (map (λ (star : ExportStarStatement). star.specifier_text) table.stars)
+      → new ≡ append_resolved_specifiers graph table.specifier mid (flat_map (λ (s : Symbol). import_specifiers_among (symbol_decls s)) table.symbols)
+      → new ≡ append_resolved_specifiers root.graph (specifier_in root module_id) old (star_and_import_specifiers root.graph (specifier_in root module_id))
   stars_and_imports_requested graph old mid new same first then =
-      then ∙ (ap (λ (list : List (List ℕ)). with_targets graph table.specifier list (flat_map (λ (s : Symbol). import_specifiers_among (symbol_decls s))
-      table.symbols)) first
+      then ∙ (ap (λ (list : List (List ℕ)). append_resolved_specifiers graph table.specifier list
+      (flat_map (λ (s : Symbol). import_specifiers_among (symbol_decls s)) table.symbols)) first
       ∙ (targets_joined graph table.specifier (map (λ (star : ExportStarStatement). star.specifier_text) table.stars)
       (flat_map (λ (s : Symbol). import_specifiers_among
       (symbol_decls s)) table.symbols) old
-      ∙ (λ i. with_targets (same i) (specifier_is i) old (stars_are i ++ import_specifiers_are i))))
+      ∙ (λ i. append_resolved_specifiers (same i) (specifier_is i) old (stars_are i ++ import_specifiers_are i))))

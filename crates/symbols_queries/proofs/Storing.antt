@@ -11,7 +11,7 @@ use Rattle.symbols_root.specs.declared.rules.Rules.{Rules}
 use Rattle.symbols_root.specs.declared.rules.Rules.TheVariants.{Deno, Strict}
 use Rattle.symbols_root.specs.Growing.{HasGrown}
 use Rattle.symbols_root.specs.Specifiers.{contains_specifier}
-use Rattle.symbols_root.specs.Roots.{RootView, with_stored_module, with_stored_modules, specifier_in}
+use Rattle.symbols_root.specs.Roots.{RootView, root_with_stored_module, root_with_stored_modules, specifier_in}
 use Rattle.symbols_root.specs.laws.Growing.{has_grown_by_stored_modules}
 use Rattle.symbols_exports.specs.ExportAnswers.{IsExportsCallResult}
 use Rattle.symbols_exports.specs.Chains.{IsReachedByStars, AreReachedByStars}
@@ -48,7 +48,7 @@ among_stored (x ∷ stored) v is = by (bytes_eq v x) refl is (λ further. among_
     by false other w rest = Contains-append_right (x ∷ []) stored v (rest w)
 
 -- a module is stored after it was stored
-pub stored_there : (root : RootView) (v : List ℕ) → Contains (with_stored_module root (Some v)).stored v
+pub stored_there : (root : RootView) (v : List ℕ) → Contains (root_with_stored_module root (Some v)).stored v
 stored_there root v = by (contains_specifier root.stored v) refl
   where
     by : (b : Bool) → contains_specifier root.stored v ≡ b → Contains (if b then root.stored else root.stored ++ v ∷ []) v
@@ -61,23 +61,25 @@ abbrev end_of : List ℕ × List ℕ → List ℕ
 end_of m = m.1
 
 ends_stored : (root : RootView) (reached : List (List ℕ × List ℕ))
-    → All (λ (m : List ℕ × List ℕ). Contains (with_stored_modules root (map end_of reached)).stored m.1) reached
+    → All (λ (m : List ℕ × List ℕ). Contains (root_with_stored_modules root (map end_of reached)).stored m.1) reached
 ends_stored root [] = All-nil (λ (m : List ℕ × List ℕ). Contains root.stored m.1)
 ends_stored root (m ∷ rest) =
-    let first : RootView = with_stored_module root (Some m.1) in
-    All-cons (λ (x : List ℕ × List ℕ). Contains (with_stored_modules first (map end_of rest)).stored x.1) m rest
-    (still_there first (with_stored_modules first (map end_of rest)) m.1 (has_grown_by_stored_modules first (map end_of rest)) (stored_there root m.1))
+    let first : RootView = root_with_stored_module root (Some m.1) in
+    All-cons (λ (x : List ℕ × List ℕ). Contains (root_with_stored_modules first (map end_of rest)).stored x.1) m rest
+    (still_there first (root_with_stored_modules first (map end_of rest)) m.1 (has_grown_by_stored_modules first (map end_of rest)) (stored_there root m.1))
     (ends_stored first rest)
 
 -- each reachable module is stored
 pub reached_stored : (old new : RootView) (module_id : ModuleId) (reached : List (List ℕ × List ℕ)) → new.graph ≡ old.graph
-    → AreReachedByStars (star_targets_of old.graph) (specifier_in old module_id) reached → new ≡ with_stored_modules old (map end_of reached) → (end : List ℕ)
+    → AreReachedByStars (star_targets_of old.graph) (specifier_in old module_id) reached → new ≡ root_with_stored_modules old (map end_of reached)
+    → (end : List ℕ)
     → IsReachedByStars (star_targets_of new.graph) (specifier_in old module_id) end → Contains new.stored end
 reached_stored old new module_id reached same are_reached stored end chain_ends_at =
     let visited = are_reached.reached end (subst (λ (g : GraphView). IsReachedByStars (star_targets_of g) (specifier_in old module_id) end) same chain_ends_at)
     in
     subst (λ (root : RootView). Contains root.stored end) (sym stored) (All-contains
-    (λ (m : List ℕ × List ℕ). Contains (with_stored_modules old (map end_of reached)).stored m.1) reached (visited.0, end) (ends_stored old reached) visited.1)
+    (λ (m : List ℕ × List ℕ). Contains (root_with_stored_modules old (map end_of reached)).stored m.1) reached (visited.0, end) (ends_stored old reached)
+    visited.1)
 
 pub reached_there : (old new : RootView) (module_id : ModuleId) (names : List ResolvedExportView) (shared : List (NameWithExporters ResolvedExportView))
     (unresolved : List (ModuleId

@@ -4,9 +4,9 @@ use Rattle.symbols_ast.specs.Graph.{GraphView}
 use Rattle.symbols_table.specs.declared.info.fault.SymbolsFault.{SymbolsFault}
 use Rattle.symbols_table.specs.declared.info.fault.SymbolsFault.TheVariants.{OutOfMemory, UnknownSymbol}
 use Rattle.symbols_root.specs.declared.rules.Rules.{Rules}
-use Rattle.symbols_root.specs.Calls.{CanResolvingFail}
+use Rattle.symbols_root.specs.Calls.{IsUnstoredOrHasTypesDependency}
 use Rattle.symbols_root.specs.TypesChains.{resolved_module_specifier}
-use Rattle.symbols_root.specs.Roots.{RootView, with_stored_module, IsStoringFault}
+use Rattle.symbols_root.specs.Roots.{RootView, root_with_stored_module, IsStoringFault}
 use Rattle.symbols_exports.specs.Chains.{IsReachedByStars}
 use Rattle.symbols_exports.specs.StarStatements.{star_targets_of}
 use Rattle.symbols_root.specs.Growing.{HasGrown}
@@ -15,7 +15,7 @@ use Rattle.symbols_answers.specs.Questions.{QuestionView, query_module, query_ex
 use Rattle.symbols_answers.specs.Questions.{query_deps, query_paths, query_definitions, query_leaves, query_resolve, QueryForm, for_answer, for_inputs, QueryView}
 use Rattle.symbols_answers.specs.Answers.{AnswerView}
 use Rattle.symbols_answers.specs.QueryAnswers.{query_answer}
-use Rattle.symbols_answers.specs.QueryReach.{IsRequestedByQuery}
+use Rattle.symbols_answers.specs.QueryReach.{IsSpecifierRequestedByQuery}
 use Rattle.symbols_answers.specs.Stored.{AreQueryModulesStored}
 
 -- the other modules that a question on a module may need: for its exports and public names the reachable ones, for definitions and
@@ -34,7 +34,7 @@ IsOtherModuleNeededByQuestion rules graph specifier (query_resolve reference) v 
 
 -- the modules that the inputs of a query need: those that the specifiers which it requests resolve to
 abbrev pub IsNeededForInputs : GraphView → QueryView → List ℕ → Type 0
-IsNeededForInputs graph query v = (key : List ℕ) × IsRequestedByQuery graph query key × (resolved_module_specifier graph key ≡ Some v)
+IsNeededForInputs graph query v = (key : List ℕ) × IsSpecifierRequestedByQuery graph query key × (resolved_module_specifier graph key ≡ Some v)
 
 -- the modules that a query may need besides the one that its specifier resolves to
 abbrev pub IsNeededInForm : QueryForm → Rules → GraphView → QueryView → List ℕ → Type 0
@@ -57,20 +57,20 @@ CanBeStoredByQueries rules graph queries v = (query : QueryView) × Contains que
 pub record IsUnknownSymbolQueryFault (old new : RootView) (query : QueryView) (fault : SymbolsFault) : Type 0 where
   pub no_answer : query_answer old.rules old.graph query ≡ None
   pub fault_is : fault ≡ UnknownSymbol
-  pub stored : new ≡ with_stored_module old (resolved_module_specifier old.graph query.specifier)
+  pub stored : new ≡ root_with_stored_module old (resolved_module_specifier old.graph query.specifier)
 
 -- the queried module is refused, or an allocation failed for it: nothing changes. It isn't stored, or a types dependency leads to it
 pub record IsQueriedModuleRefused (old new : RootView) (query : QueryView) (fault : SymbolsFault) : Type 0 where
   pub refused : IsStoringFault old (resolved_module_specifier old.graph query.specifier) fault
-  pub can_fail : CanResolvingFail old query.specifier
+  pub can_fail : IsUnstoredOrHasTypesDependency old query.specifier
   pub unchanged : new ≡ old
 
 -- the query has an answer, and the queried module is stored; another module that may be needed is refused, or an allocation failed. Besides
 -- the queried module only such as may be needed are newly stored
 pub record IsOtherNeededModuleRefused (old new : RootView) (query : QueryView) (fault : SymbolsFault) : Type 0 where
   pub has_answer : query_answer old.rules old.graph query ≢ None
-  pub stored : HasGrown (with_stored_module old (resolved_module_specifier old.graph query.specifier)) new
-  pub are_newly_stored_for_queries : AreNewlyStoredAmong (with_stored_module old (resolved_module_specifier old.graph query.specifier)) new
+  pub stored : HasGrown (root_with_stored_module old (resolved_module_specifier old.graph query.specifier)) new
+  pub are_newly_stored_for_queries : AreNewlyStoredAmong (root_with_stored_module old (resolved_module_specifier old.graph query.specifier)) new
       (IsOtherModuleNeededByQuery old.rules old.graph query)
   pub needed : Option (List ℕ)
   pub is_needed : (v : List ℕ) → needed ≡ Some v → IsOtherModuleNeededByQuery old.rules old.graph query v

@@ -24,7 +24,7 @@ ghost use Rattle.symbols_queries.specs.inner.Given.{IsQuestionAnswerReturned};
 ghost use Rattle.symbols_queries.specs.QueryFaults.{IsQueryFault, IsQueryListFault};
 ghost use Rattle.symbols_queries.specs.QueryFaults.{IsOtherModuleNeededByQuestion, CanBeStoredByQuery};
 ghost use Rattle.symbols_queries.specs.QueryFaults.{CanBeStoredByQueries};
-ghost use Rattle.symbols_queries.specs.inner.QueryFaults.{IsQuestionFault, IsQuestionOutcome};
+ghost use Rattle.symbols_queries.specs.inner.QueryFaults.{IsQuestionFault, HasGrownAndQuestionFailsOnlyFor};
 
 use crate::answer::Answer;
 use crate::decl_deps::symbol_deps;
@@ -134,7 +134,7 @@ fn paths_answer<'a>(
     symbol: SymbolId,
 ) -> Result<Answer<'a>, SymbolsFault>
     requires { IsStored root.old module_id }
-    ensures keeps { IsQuestionOutcome root.old root.new (IsQuestionFault root.old root.new
+    ensures keeps { HasGrownAndQuestionFailsOnlyFor root.old root.new (IsQuestionFault root.old root.new
         (specifier_in root.old module_id) (query_paths symbol)) result }
     ensures stores { AreNewlyStoredAmong root.old root.new (IsOtherModuleNeededByQuestion root.old.rules root.old.graph
         (specifier_in root.old module_id) (query_paths symbol)) }
@@ -154,7 +154,7 @@ fn definitions_answer<'a>(
     symbol: SymbolId,
 ) -> Result<Answer<'a>, SymbolsFault>
     requires { IsStored root.old module_id }
-    ensures keeps { IsQuestionOutcome root.old root.new (IsQuestionFault root.old root.new
+    ensures keeps { HasGrownAndQuestionFailsOnlyFor root.old root.new (IsQuestionFault root.old root.new
         (specifier_in root.old module_id) (query_definitions symbol)) result }
     ensures stores { AreNewlyStoredAmong root.old root.new (IsOtherModuleNeededByQuestion root.old.rules root.old.graph
         (specifier_in root.old module_id) (query_definitions symbol)) }
@@ -177,7 +177,7 @@ fn leaves_answer<'a>(
     symbol: SymbolId,
 ) -> Result<Answer<'a>, SymbolsFault>
     requires { IsStored root.old module_id }
-    ensures keeps { IsQuestionOutcome root.old root.new (IsQuestionFault root.old root.new
+    ensures keeps { HasGrownAndQuestionFailsOnlyFor root.old root.new (IsQuestionFault root.old root.new
         (specifier_in root.old module_id) (query_leaves symbol)) result }
     ensures stores { AreNewlyStoredAmong root.old root.new (IsOtherModuleNeededByQuestion root.old.rules root.old.graph
         (specifier_in root.old module_id) (query_leaves symbol)) }
@@ -220,7 +220,7 @@ fn answer_on<'a>(
     query: &Query<'_>,
 ) -> Result<Answer<'a>, SymbolsFault>
     requires { IsStored root.old module_id }
-    ensures keeps { IsQuestionOutcome root.old root.new
+    ensures keeps { HasGrownAndQuestionFailsOnlyFor root.old root.new
         (IsQuestionFault root.old root.new (specifier_in root.old module_id)
         (query_view query.now).question) result }
     ensures stores { AreNewlyStoredAmong root.old root.new (IsOtherModuleNeededByQuestion root.old.rules root.old.graph

@@ -7,18 +7,17 @@ ghost use Rattle.symbols_table.specs.Symbols.{symbol_decls};
 ghost use Rattle.symbols_root.specs.Calls.{IsStored};
 ghost use Rattle.symbols_root.specs.Roots.{maybe_specifier, specifier_in};
 ghost use Rattle.symbols_root.specs.TypesChains.{resolved_module_specifier};
-ghost use Rattle.symbols_answers.specs.InputLists.{with_targets, walk_from, walk_limit};
-ghost use Rattle.symbols_answers.specs.InputLists.{import_specifiers_among, followed_specifiers};
-ghost use Rattle.symbols_answers.specs.InputLists.{resolved_import_type, with_import_type};
-ghost use Rattle.symbols_answers.specs.InputLists.{with_requests, requested_specifiers};
-ghost use Rattle.symbols_answers.specs.InputLists.{with_types_dependency, seen_specifiers};
-ghost use Rattle.symbols_answers.specs.InputLists.{inputs_of_query};
-ghost use Rattle.symbols_answers.specs.Inputs.{found_under, input_of};
+ghost use Rattle.symbols_answers.specs.InputLists.{append_resolved_specifiers, list_grown_by_walk_from_index};
+ghost use Rattle.symbols_answers.specs.InputLists.{walk_limit, import_specifiers_among, followed_specifiers};
+ghost use Rattle.symbols_answers.specs.InputLists.{import_type_specifier_of_question, append_resolved_import_type};
+ghost use Rattle.symbols_answers.specs.InputLists.{append_requested_specifiers, requested_specifiers};
+ghost use Rattle.symbols_answers.specs.InputLists.{append_types_dependency, seen_specifiers, inputs_of_query};
+ghost use Rattle.symbols_answers.specs.Inputs.{found_under_specifier, input_of_specifier};
 ghost use Rattle.symbols_answers.specs.Stored.{AreRequestedModulesStored};
 ghost use Rattle.symbols_ast.specs.Graph.{module_after_redirect};
 ghost use Rattle.symbols_queries.specs.Queries.{query_view};
 ghost use Rattle.symbols_queries.specs.AnswerViews.{found_view, input_view};
-ghost use Rattle.symbols_queries.specs.inner.SpecifierLists.{KeepsForInputs};
+ghost use Rattle.symbols_queries.specs.inner.SpecifierLists.{HasGrownAndInputsFailOnlyStoring};
 
 use crate::query::Query;
 use crate::specifier_list::SpecifierList;
@@ -57,7 +56,7 @@ fn add_target<'a>(
     list: &mut SpecifierList<'_, 'a>,
 ) -> Result<(), AllocError>
     ensures { OnOk result (list.new
-        ≡ with_targets graph.now referrer.now list.old (specifier_text.now ∷ [])) }
+        ≡ append_resolved_specifiers graph.now referrer.now list.old (specifier_text.now ∷ [])) }
 {
     let mut counter = LookupCounter::new();
     match graph.resolve_dependency(specifier_text, referrer, &mut counter) {
@@ -73,7 +72,7 @@ fn add_star_targets<'a>(
     list: &mut SpecifierList<'_, 'a>,
 ) -> Result<(), AllocError>
     ensures { OnOk result (list.new
-        ≡ with_targets graph.now (symbol_table_of_ref info.entry).specifier list.old
+        ≡ append_resolved_specifiers graph.now (symbol_table_of_ref info.entry).specifier list.old
         (map (λ star. star.specifier_text) (symbol_table_of_ref info.entry).stars)) }
 {
     let mut position = 0;
@@ -92,7 +91,7 @@ fn add_symbol_targets<'a>(
     symbol: &Symbol<'a>,
     list: &mut SpecifierList<'_, 'a>,
 ) -> Result<(), AllocError>
-    ensures { OnOk result (list.new ≡ with_targets graph.now referrer.now list.old
+    ensures { OnOk result (list.new ≡ append_resolved_specifiers graph.now referrer.now list.old
         (import_specifiers_among (symbol_decls symbol.now))) }
 {
     for decl in symbol.decls() {
@@ -110,7 +109,7 @@ fn add_import_targets<'a>(
     list: &mut SpecifierList<'_, 'a>,
 ) -> Result<(), AllocError>
     ensures { OnOk result (list.new
-        ≡ with_targets graph.now (symbol_table_of_ref info.entry).specifier list.old
+        ≡ append_resolved_specifiers graph.now (symbol_table_of_ref info.entry).specifier list.old
         (flat_map (λ symbol. import_specifiers_among (symbol_decls symbol))
         (symbol_table_of_ref info.entry).symbols)) }
 {
@@ -129,7 +128,7 @@ fn add_followed_targets<'a>(
 ) -> Result<(), AllocError>
     requires { IsStored root.now module_id }
     ensures { OnOk result (list.new
-        ≡ with_targets root.now.graph (specifier_in root.now module_id) list.old
+        ≡ append_resolved_specifiers root.now.graph (specifier_in root.now module_id) list.old
         (followed_specifiers root.now.graph (query_view query.now).question
         (specifier_in root.now module_id))) }
 {
@@ -160,7 +159,7 @@ fn add_requests<'a>(
     requires { IfSome module_id (IsStored root.now) }
     ensures { (key : List ℕ) → option_map (maybe_specifier root.now) module_id
         ≡ option_map (λ s. Some s) (resolved_module_specifier root.now.graph key)
-        → OnOk result (list.new ≡ with_requests root.now.graph
+        → OnOk result (list.new ≡ append_requested_specifiers root.now.graph
         (query_view query.now).question key list.old) }
 {
     match module_id {
@@ -171,7 +170,7 @@ fn add_requests<'a>(
 
 /// Returns the specifier of the import type that a query resolves, if it is on one.
 fn import_type_specifier<'r>(query: &'r Query<'_>) -> Option<&'r str>
-    ensures { option_copied result ≡ resolved_import_type (query_view query.now).question }
+    ensures { option_copied result ≡ import_type_specifier_of_question (query_view query.now).question }
 {
     match query {
         Query::Resolve(_, SymbolNodeDep::ImportType(specifier_text, _)) => Some(specifier_text),
@@ -190,7 +189,7 @@ fn add_import_type_target<'a>(
     requires queried { option_map (maybe_specifier root.now) module_id
         ≡ option_map (λ s. Some s)
         (resolved_module_specifier root.now.graph (query_view query.now).specifier) }
-    ensures { OnOk result (list.new ≡ with_import_type root.now.graph (query_view query.now) list.old) }
+    ensures { OnOk result (list.new ≡ append_resolved_import_type root.now.graph (query_view query.now) list.old) }
 {
     let Some(module_id) = module_id else {
         return Ok(());
@@ -215,7 +214,7 @@ fn requested_specifiers<'q, 'a>(
 ) -> Result<SpecifierList<'q, 'a>, SymbolsFault>
     requires { option_map (maybe_specifier root.old) module_id
         ≡ option_map (λ s. Some s) (resolved_module_specifier root.old.graph (query_view query.now).specifier) }
-    ensures keeps { KeepsForInputs root.old root.new (query_view query.now)
+    ensures keeps { HasGrownAndInputsFailOnlyStoring root.old root.new (query_view query.now)
         result }
     ensures listed { IfOk result (λ list. list ≡ requested_specifiers root.old.graph
         (query_view query.now)) }
@@ -242,7 +241,7 @@ fn add_types_dependencies<'a>(
     list: &mut SpecifierList<'_, 'a>,
 ) -> Result<(), AllocError>
     ensures listed { OnOk result (list.new
-        ≡ walk_from (with_types_dependency graph.now) walk_limit 0 list.old) }
+        ≡ list_grown_by_walk_from_index (append_types_dependency graph.now) walk_limit 0 list.old) }
     ensures few { OnOk result (length list.new ≤ 2 ^ 63) }
 {
     let mut index = 0;
@@ -260,7 +259,7 @@ fn add_types_dependencies<'a>(
 /// Returns what the graph has under a specifier.
 fn found_under<'a>(graph: &'a ModuleGraph, specifier: &str) -> Found<'a>
     ensures { found_view result
-        ≡ found_under specifier.now (module_after_redirect graph.now specifier.now) }
+        ≡ found_under_specifier specifier.now (module_after_redirect graph.now specifier.now) }
 {
     match graph.get(specifier) {
         Some(graph_module) if graph_module.specifier() == specifier => Found::Module,
@@ -276,7 +275,7 @@ fn inputs_from_list<'a>(
     list: SpecifierList<'_, 'a>,
 ) -> Result<Vec<QueryInput<'a>>, AllocError>
     ensures { IfOk result
-        (λ inputs. map input_view inputs.items ≡ map (input_of graph.now) list.entry) }
+        (λ inputs. map input_view inputs.items ≡ map (input_of_specifier graph.now) list.entry) }
 {
     let mut inputs = Vec::new(alloc);
     let (first, added) = list.into_parts();
@@ -300,10 +299,10 @@ fn inputs_from_requested<'a>(
     requested: SpecifierList<'_, 'a>,
 ) -> Result<Vec<QueryInput<'a>>, AllocError>
     ensures listed { IfOk result (λ inputs. map input_view inputs.items
-        ≡ map (input_of graph.now)
-        (walk_from (with_types_dependency graph.now) walk_limit 0 requested.entry)) }
+        ≡ map (input_of_specifier graph.now)
+        (list_grown_by_walk_from_index (append_types_dependency graph.now) walk_limit 0 requested.entry)) }
     ensures few { OnOk result (length
-        (walk_from (with_types_dependency graph.now) walk_limit 0 requested.entry) ≤ 2 ^ 63) }
+        (list_grown_by_walk_from_index (append_types_dependency graph.now) walk_limit 0 requested.entry) ≤ 2 ^ 63) }
 {
     let mut list = requested;
     add_types_dependencies(graph, &mut list)?;
@@ -319,7 +318,7 @@ pub(crate) fn inputs<'a>(
 ) -> Result<Vec<QueryInput<'a>>, SymbolsFault>
     requires { option_map (maybe_specifier root.old) module_id
         ≡ option_map (λ s. Some s) (resolved_module_specifier root.old.graph (query_view query.now).specifier) }
-    ensures keeps { KeepsForInputs root.old root.new (query_view query.now)
+    ensures keeps { HasGrownAndInputsFailOnlyStoring root.old root.new (query_view query.now)
         result }
     ensures listed { IfOk result (λ inputs. map input_view inputs.items ≡ inputs_of_query
         root.old.graph (query_view query.now)) }

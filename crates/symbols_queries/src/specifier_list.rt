@@ -2,7 +2,7 @@
 
 ghost use Rattle.std.specs.Prelude.{◌≡◌, ◌≤◌, ◌^◌, ◌∷◌, [], length, slice_get, OnOk};
 ghost use Rattle.std.specs.Option.{option_copied};
-ghost use Rattle.symbols_answers.specs.InputLists.{with_specifier};
+ghost use Rattle.symbols_answers.specs.InputLists.{append_specifier_if_absent};
 ghost use Rattle.symbols_queries.specs.inner.SpecifierLists.{specifiers_of_keys};
 
 use indexmap::IndexSet;
@@ -56,7 +56,7 @@ impl<'q, 'a> SpecifierList<'q, 'a> {
 
     /// Adds a specifier at the end, unless the list has it.
     pub(crate) fn add(&mut self, specifier: &'a str) -> Result<(), AllocError>
-        ensures { OnOk result (self.new ≡ with_specifier self.old specifier.now) }
+        ensures { OnOk result (self.new ≡ append_specifier_if_absent self.old specifier.now) }
     {
         if specifier != self.first {
             self.added.insert(specifier)?;

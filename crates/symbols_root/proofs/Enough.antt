@@ -14,8 +14,8 @@ use Rattle.symbols_root.specs.Specifiers.{module_with_specifier, contains_specif
 use Rattle.symbols_root.specs.Roots.{RootView, widest_limits}
 use Rattle.symbols_root.specs.StoredModules.{StoredModule, stored_specifiers}
 use Rattle.symbols_root.specs.inner.StoredModules.{AreTablesOfModules}
-use Rattle.symbols_root.specs.laws.Specifiers.{laws, AreSpecifiersOfModulesIn, specifier_of_found_module_is_in_graph, pushed_specifiers_are_in_graph, no_more}
-use Rattle.symbols_root.specs.laws.Specifiers.{specifier_index_if_contained}
+use Rattle.symbols_root.specs.laws.Specifiers.{bytes_eq_is_equivalence, AreSpecifiersOfModulesIn, specifier_of_found_module_is_in_graph}
+use Rattle.symbols_root.specs.laws.Specifiers.{pushed_specifiers_are_in_graph, distinct_specifiers_are_at_most_modules, specifier_index_if_contained}
 
 -- ---- modules
 
@@ -41,7 +41,8 @@ pub always_room : (root : RootView) (m : ModuleView) → root.limits ≡ widest_
     ≡ false
     → root.limits.modules ≤ length root.stored → ⊥
 always_room root m wide few once inside under new full =
-    let more = no_more root.graph (root.stored ++ m.specifier ∷ []) (IsDistinct-push laws root.stored m.specifier once new)
+    let more = distinct_specifiers_are_at_most_modules root.graph (root.stored ++ m.specifier ∷ [])
+    (IsDistinct-push bytes_eq_is_equivalence root.stored m.specifier once new)
     (pushed_specifiers_are_in_graph root.graph root.stored m inside under) in
     let limit : root.limits.modules ≡ 2 ^ 32 - 1 = ap (λ (l : Limits). l.modules) wide in
     omega (arith, more, length_push root.stored m.specifier, limit, few, full)

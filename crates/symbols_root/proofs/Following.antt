@@ -12,9 +12,10 @@ use Rattle.indexmap.specs.IndexSet.{insert_key}
 use Rattle.symbols_ast.specs.Graph.{GraphView, ModuleView, module_after_redirect, content_types_dependency, IsCheckedContent}
 use Rattle.symbols_root.specs.Specifiers.{module_with_specifier, contains_specifier}
 use Rattle.symbols_root.specs.TypesChains.{is_analyzable, types_module, types_chain_from, types_chain, get_prefer_types, HasTypesDependency}
-use Rattle.symbols_root.specs.laws.Specifiers.{laws, empty_list_is_distinct, AreSpecifiersOfModulesIn, none_in, pushed_specifiers_are_in_graph}
-use Rattle.symbols_root.specs.laws.Specifiers.{redirected_module_has_its_specifier, types_module_has_its_specifier}
-use Rattle.symbols_root.specs.laws.TypesChains.{types_chain_from_no_module, types_chain_from_visited_module, types_chain_from_new_module, room}
+use Rattle.symbols_root.specs.laws.Specifiers.{bytes_eq_is_equivalence, empty_list_is_distinct, AreSpecifiersOfModulesIn, empty_list_is_of_modules_in_graph}
+use Rattle.symbols_root.specs.laws.Specifiers.{pushed_specifiers_are_in_graph, redirected_module_has_its_specifier, types_module_has_its_specifier}
+use Rattle.symbols_root.specs.laws.TypesChains.{types_chain_from_no_module, types_chain_from_visited_module, types_chain_from_new_module}
+use Rattle.symbols_root.specs.laws.TypesChains.{new_module_fits_in_module_count}
 
 -- a module that was found: it has its own specifier in the graph, and its content is checked
 pub record IsKnown (graph : GraphView) (m : ModuleView) : Type 0 where
@@ -40,7 +41,7 @@ following_first graph specifier = record {
   more = length graph.modules;
   enough = omega arith;
   has_no_duplicates = empty_list_is_distinct;
-  inside = none_in graph;
+  inside = empty_list_is_of_modules_in_graph graph;
   chain = refl;
   last = refl;
   known = λ m e. absurd (none-some m e);
@@ -74,7 +75,7 @@ module _ {graph : GraphView} {specifier : List ℕ} {before : List (List ℕ)} {
 
   pub following_room : (m : ModuleView) → IsFollowing graph specifier before resolved_to (Some m) → contains_specifier before m.specifier ≡ false
       → length before + 1 ≤ length graph.modules
-  following_room m w new = room graph before m w.has_no_duplicates w.inside (w.under m refl) new
+  following_room m w new = new_module_fits_in_module_count graph before m w.has_no_duplicates w.inside (w.under m refl) new
 
   -- the state after a new module
   pub following_next : (m : ModuleView) → IsFollowing graph specifier before resolved_to (Some m) → contains_specifier before m.specifier ≡ false
@@ -99,7 +100,7 @@ module _ {graph : GraphView} {specifier : List ℕ} {before : List (List ℕ)} {
         passed = w.passed ++ m ∷ [];
         more = more;
         enough = omega (arith, enough, length_push before m.specifier);
-        has_no_duplicates = IsDistinct-push laws before m.specifier w.has_no_duplicates new;
+        has_no_duplicates = IsDistinct-push bytes_eq_is_equivalence before m.specifier w.has_no_duplicates new;
         inside = pushed_specifiers_are_in_graph graph before m w.inside (w.under m refl);
         chain = chain ∙ (ap (λ rest. w.passed ++ rest) (types_chain_from_new_module graph more before m new)
             ∙ sym (append_assoc w.passed (m ∷ []) (types_chain_from graph more (before ++ m.specifier ∷ []) (types_module graph m))));

@@ -18,10 +18,10 @@ use Rattle.symbols_table.specs.declared.info.fault.SymbolsFault.TheVariants as f
 use Rattle.symbols_table.specs.Analysis.{IsAnalysisResult, IsAnalyzedTable, IsAnalysisFault}
 use Rattle.symbols_table.specs.Modules.{symbol_table_of}
 use Rattle.symbols_root.specs.Specifiers.{module_with_specifier, contains_specifier}
-use Rattle.symbols_root.specs.Roots.{RootView, with_stored_module, HasRoomForModule, IsNeededAndNotStored, IsStoringFault, IsTableOfModule}
+use Rattle.symbols_root.specs.Roots.{RootView, root_with_stored_module, HasRoomForModule, IsNeededAndNotStored, IsStoringFault, IsTableOfModule}
 use Rattle.symbols_root.specs.StoredModules.{StoredModule, stored_specifiers}
 use Rattle.symbols_root.specs.inner.StoredModules.{AreTablesOfModules, ResolvesToItself}
-use Rattle.symbols_root.specs.laws.Specifiers.{same_bytes}
+use Rattle.symbols_root.specs.laws.Specifiers.{equal_if_bytes_eq}
 
 -- ---- the map by specifiers
 
@@ -53,7 +53,7 @@ index_stored entries q i at =
     let key = get_or (keys_of entries) i d in
     ap (λ specifiers. slice_get specifiers i) (sym (keys_stored entries))
     ∙ (slice_get-map (λ (k : Bor (List ℕ)). k.now) (keys_of entries) i
-    ∙ (ap (option_map (λ (k : Bor (List ℕ)). k.now)) (slice_get-get_or (keys_of entries) i d here.0) ∙ ap Some (sym (same_bytes q key.now here.1))))
+    ∙ (ap (option_map (λ (k : Bor (List ℕ)). k.now)) (slice_get-get_or (keys_of entries) i d here.0) ∙ ap Some (sym (equal_if_bytes_eq q key.now here.1))))
 
 pub length-stored : (entries : List StoredModule) → length (stored_specifiers entries) ≡ length entries
 length-stored entries = length-map entries (λ (e : StoredModule). e.0.now)
@@ -107,11 +107,11 @@ whole_push graph limit entries e all one i entry at = elim (get_push entries e e
 
 -- ---- the view
 
-pub with_old : (root : RootView) (q : List ℕ) → contains_specifier root.stored q ≡ true → root ≡ with_stored_module root (Some q)
+pub with_old : (root : RootView) (q : List ℕ) → contains_specifier root.stored q ≡ true → root ≡ root_with_stored_module root (Some q)
 with_old root q is = sym (ap (λ b. record root { stored = if b then root.stored else root.stored ++ q ∷ [] }) is)
 
 pub with_new : (root : RootView) (q : List ℕ) → contains_specifier root.stored q ≡ false
-    → record root { stored = root.stored ++ q ∷ [] } ≡ with_stored_module root (Some q)
+    → record root { stored = root.stored ++ q ∷ [] } ≡ root_with_stored_module root (Some q)
 with_new root q is = sym (ap (λ b. record root { stored = if b then root.stored else root.stored ++ q ∷ [] }) is)
 
 -- a stored module isn't missing

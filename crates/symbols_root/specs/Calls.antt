@@ -16,8 +16,8 @@ abbrev pub IsOnlyOutOfMemoryByWidestLimits : {A : Type 0} → RootView → Resul
 IsOnlyOutOfMemoryByWidestLimits root result = root.limits ≡ widest_limits → IfErr result (λ fault. fault ≡ OutOfMemory)
 
 -- resolving the specifier can fail only then: its module isn't stored, or the module that it names has a types dependency to follow
-abbrev pub CanResolvingFail : RootView → List ℕ → Type 0
-CanResolvingFail root specifier =
+abbrev pub IsUnstoredOrHasTypesDependency : RootView → List ℕ → Type 0
+IsUnstoredOrHasTypesDependency root specifier =
     ((needed : List ℕ) × IsNeededAndNotStored root (resolved_module_specifier root.graph specifier) needed) ⊎ HasTypesDependency root.graph specifier
 
 -- after a call: stored modules stay, a fault has one of these reasons, and by the widest limits it is `OutOfMemory`

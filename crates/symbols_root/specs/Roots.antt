@@ -28,16 +28,16 @@ abbrev pub widest_limits : Limits
 widest_limits = record { modules = 2 ^ 32 - 1; symbols = 2 ^ 32 - 1 }
 
 -- the root with the module of this specifier, if one is needed: it is stored last, unless it is stored already
-abbrev pub with_stored_module : RootView → Option (List ℕ) → RootView
-with_stored_module root None = root
-with_stored_module root (Some specifier) = record root {
+abbrev pub root_with_stored_module : RootView → Option (List ℕ) → RootView
+root_with_stored_module root None = root
+root_with_stored_module root (Some specifier) = record root {
   stored = if contains_specifier root.stored specifier then root.stored else root.stored ++ specifier
       ∷ [];
 }
 
 -- the root with each of these modules stored in turn, unless it is stored already
-abbrev pub with_stored_modules : RootView → List (List ℕ) → RootView
-with_stored_modules root specifiers = fold (λ r specifier. with_stored_module r (Some specifier)) root specifiers
+abbrev pub root_with_stored_modules : RootView → List (List ℕ) → RootView
+root_with_stored_modules root specifiers = fold (λ r specifier. root_with_stored_module r (Some specifier)) root specifiers
 
 -- the specifier of a stored module; none if no module has this number
 abbrev pub maybe_specifier : RootView → ModuleId → Option (List ℕ)

@@ -13,14 +13,14 @@ ghost use Rattle.symbols_root.specs.declared.rules.Rules.TheVariants as rules;
 ghost use Rattle.symbols_root.specs.Specifiers.{module_with_specifier, contains_specifier};
 ghost use Rattle.symbols_root.specs.TypesChains.{is_analyzable, types_chain, get_prefer_types};
 ghost use Rattle.symbols_root.specs.TypesChains.{resolved_module_specifier, IsUniqueTypesChain};
-ghost use Rattle.symbols_root.specs.Roots.{empty_root, with_stored_module, maybe_specifier};
+ghost use Rattle.symbols_root.specs.Roots.{empty_root, root_with_stored_module, maybe_specifier};
 ghost use Rattle.symbols_root.specs.Roots.{IsTableOfStoredModule, specifier_in};
-ghost use Rattle.symbols_root.specs.GraphModules.{changes_of_module};
+ghost use Rattle.symbols_root.specs.GraphModules.{table_changes_of_module};
 ghost use Rattle.symbols_root.specs.Roots.{IsNeededAndNotStored, IsStoringFault, IsModuleWithinLimits};
 ghost use Rattle.symbols_root.specs.Roots.{widest_limits};
 ghost use Rattle.symbols_root.specs.Growing.{HasGrown};
 ghost use Rattle.symbols_root.specs.Calls.{IsStored, IsOnlyOutOfMemoryByWidestLimits, HasGrownAndFailsOnlyFor};
-ghost use Rattle.symbols_root.specs.Calls.{CanResolvingFail};
+ghost use Rattle.symbols_root.specs.Calls.{IsUnstoredOrHasTypesDependency};
 ghost use Rattle.symbols_root.specs.inner.StoredModules.{ResolvesToItself};
 
 use crate::limits::Limits;
@@ -184,7 +184,7 @@ impl<'a> RootSymbol<'a> {
     /// a JSON module has one (extension).
     pub fn symbol_id_from_swc(&self, module_id: ModuleId, id: &Id) -> Option<SymbolId>
         requires { IsStored self.now module_id }
-        ensures { result ≡ symbol_of_ident_after_changes (changes_of_module self.now.graph
+        ensures { result ≡ symbol_of_ident_after_changes (table_changes_of_module self.now.graph
             (specifier_in self.now module_id)) (id_view id.now) }
     {
         match self.module_from_id(module_id) {
@@ -203,7 +203,7 @@ impl<'a> RootSymbol<'a> {
         ensures gives { IfOk result
             (λ id. maybe_specifier self.new id ≡ Some graph_module.now.specifier) }
         ensures stored { OnOk result
-            (self.new ≡ with_stored_module self.old (Some graph_module.now.specifier)) }
+            (self.new ≡ root_with_stored_module self.old (Some graph_module.now.specifier)) }
         ensures allowed { OnOk result ((specifier : List ℕ)
             → IsNeededAndNotStored self.old (Some graph_module.now.specifier) specifier
             → IsModuleWithinLimits self.old specifier) }
@@ -287,14 +287,14 @@ impl<'a> RootSymbol<'a> {
         ensures gives { IfOk result (λ id. option_map (maybe_specifier self.new) id
             ≡ option_map (λ s. Some s) (resolved_module_specifier self.old.graph specifier.now)) }
         ensures stored { OnOk result (self.new
-            ≡ with_stored_module self.old
+            ≡ root_with_stored_module self.old
             (resolved_module_specifier self.old.graph specifier.now)) }
         ensures allowed { OnOk result ((needed : List ℕ)
             → IsNeededAndNotStored self.old (resolved_module_specifier self.old.graph specifier.now)
             needed
             → IsModuleWithinLimits self.old needed) }
         ensures unchanged { OnErr result (self.new ≡ self.old) }
-        ensures can_fail { OnErr result (CanResolvingFail self.old specifier.now) }
+        ensures can_fail { OnErr result (IsUnstoredOrHasTypesDependency self.old specifier.now) }
         ensures under { IfOk result (λ _. IfSome (get_prefer_types self.old.graph specifier.now)
             (λ m. module_with_specifier self.old.graph m.specifier ≡ Some m)) }
         ensures chain { IsUniqueTypesChain self.old.graph specifier.now

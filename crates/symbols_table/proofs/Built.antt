@@ -13,13 +13,14 @@ use Rattle.symbols_ast.specs.Ids.{IdView}
 use Rattle.symbols_table.specs.SymbolViews.{symbol_view, symbol_from_changes, symbol_after_changes, symbol_view_of_number}
 use Rattle.symbols_ast.specs.declared.tree.arena.Tree.{Tree}
 use Rattle.symbols_ast.specs.NodeRefs.{child_list_in_field}
-use Rattle.symbols_ast.specs.ChildFields.{body_of}
+use Rattle.symbols_ast.specs.ChildFields.{body_children_of}
 use Rattle.symbols_nodes.specs.NodeViews.{program}
 use Rattle.symbols_table.specs.declared.builder.table.ModuleBuilder.{ModuleBuilder}
 use Rattle.symbols_table.specs.declared.builder.table.BuildFault.{BuildFault}
 use Rattle.symbols_table.specs.declared.builder.table.BuildFault.TheVariants.{TooManySymbols}
 use Rattle.symbols_table.specs.DeclViews.{Declaration, definition_of_node}
-use Rattle.symbols_table.specs.Changes.{Change, adds_symbol, adds_decl, parents_after, exports_after, symbol_of_ident_after_changes, export_stars_after}
+use Rattle.symbols_table.specs.Changes.{Change, adds_symbol, adds_decl, parents_after_changes, exports_after_changes, symbol_of_ident_after_changes}
+use Rattle.symbols_table.specs.Changes.{export_stars_after_changes}
 use Rattle.symbols_table.specs.Events.{DeclarationEvent, EventEffect, begins, default, effect_of_event, default_export_effect, changes_of_effects}
 use Rattle.symbols_table.specs.Events.{symbol_of_event_at, effects_after_events, changes_of_events}
 use Rattle.symbols_table.specs.JsonEvents.{json_decl}
@@ -34,7 +35,7 @@ use Rattle.symbols_table.proofs.Walks.{first_row, first_step, begun_read, begun_
 
 -- The events of the items in a tree's body.
 abbrev pub root_events : Tree → List DeclarationEvent
-root_events tree = item_list_events tree (module_scope tree) (child_list_in_field (program_node tree) body_of) 0 1
+root_events tree = item_list_events tree (module_scope tree) (child_list_in_field (program_node tree) body_children_of) 0 1
 
 -- The changes of a tree are those of its module's row and of the events after it.
 pub table_changes_from_tree-first : (tree : Tree)
@@ -46,7 +47,7 @@ abbrev pub module_symbol : SymbolId
 module_symbol = record { 0 = 0 }
 
 pub module_index : (decl : Declaration) → symbol_of_event_at (first_row decl ∷ []) 0 ≡ Some module_symbol
-unfolding symbol_of_event_at parents_after
+unfolding symbol_of_event_at parents_after_changes
 module_index decl = refl
 
 -- The changes of the module's own event.
@@ -76,18 +77,18 @@ abbrev pub body_changes : Tree → List ℕ → List Change
 body_changes tree body = changes_of_effects (effects_after_events (first_row (program_decl tree) ∷ []) (item_list_events tree (module_scope tree) body 0 1))
 
 -- A builder that has applied the events of the body has the table of the tree.
-pub tree_read : (tree : Tree) (body : List ℕ) (b : ModuleBuilder) → body ≡ child_list_in_field (program_node tree) body_of
+pub tree_read : (tree : Tree) (body : List ℕ) (b : ModuleBuilder) → body ≡ child_list_in_field (program_node tree) body_children_of
     → HasAppliedChanges b (body_changes tree body)
     → HasAppliedChanges b (table_changes_from_tree tree)
 tree_read tree body b same is =
     subst (HasAppliedChanges b) (sym (table_changes_from_tree-first tree)) (subst (λ (items : List ℕ). HasAppliedChanges b (body_changes tree items)) same is)
 
 -- If the body needs more symbols than the limit, the tree does.
-pub tree_full : (tree : Tree) (body : List ℕ) (limit : ℕ) → body ≡ child_list_in_field (program_node tree) body_of
-    → limit < length (parents_after (body_changes tree body))
+pub tree_full : (tree : Tree) (body : List ℕ) (limit : ℕ) → body ≡ child_list_in_field (program_node tree) body_children_of
+    → limit < length (parents_after_changes (body_changes tree body))
     → limit < symbol_count (table_changes_from_tree tree)
 tree_full tree body limit same many = rw (table_changes_from_tree-first tree)
-    (subst (λ (items : List ℕ). limit < length (parents_after (body_changes tree items))) same many)
+    (subst (λ (items : List ℕ). limit < length (parents_after_changes (body_changes tree items))) same many)
 
 -- The view of a symbol is the one that the changes give.
 symbol_shown : (module_id : ModuleId) (changes : List Change) (s : SymbolId) (symbol : Symbol) → IsSymbolOfChanges module_id changes s symbol
@@ -104,7 +105,7 @@ shown b changes is s = elim (slice_get_cases b.symbols.items s.0).1 [
       ∙ symbol_shown b.setting.module_id changes s symbol (subst (IsSymbolOfChanges b.setting.module_id changes s) read (is.symbols s symbol below))
   | inr (past, none) ↦
       ap (option_map symbol_view) none ∙ sym (ap (option_map (symbol_from_changes changes s))
-      (slice_get_past (parents_after changes) s.0 (omega (arith, past, is.count))))
+      (slice_get_past (parents_after_changes changes) s.0 (omega (arith, past, is.count))))
 ]
 
 pub is_within : (b : ModuleBuilder) (changes : List Change) (limit : ℕ) → b.setting.limit ≡ limit → HasAppliedChanges b changes → symbol_count changes ≤ limit
@@ -138,22 +139,22 @@ json_read text decl b same is = rw (table_changes_from_json-first text)
 
 -- If the default export needs more symbols than the limit, the JSON text does.
 pub json_full : (text : List ℕ) (decl : Declaration) (limit : ℕ) → decl ≡ json_decl text → limit
-    < length (parents_after (changes_of_effects (first_row (json_decl text) ∷ []) ++ (default_export text decl).changes))
+    < length (parents_after_changes (changes_of_effects (first_row (json_decl text) ∷ []) ++ (default_export text decl).changes))
     → limit < symbol_count (table_changes_from_json text)
 json_full text decl limit same over =
     rw (table_changes_from_json-first text) (subst (λ (d : Declaration). limit
-    < length (parents_after (changes_of_effects (first_row (json_decl text) ∷ []) ++ (default_export text d).changes))) same over)
+    < length (parents_after_changes (changes_of_effects (first_row (json_decl text) ∷ []) ++ (default_export text d).changes))) same over)
 
 pub json_none_fits : (text : List ℕ) (limit : ℕ) → limit ≡ 0 → limit < symbol_count (table_changes_from_json text)
 json_none_fits text limit none = begun_fault (json_decl text) (default 0 (json_decl text) ∷ []) limit 0 refl (omega (arith, none))
 
 -- A JSON text binds no identifier and has no `export *`.
 pub json_maps_none : (text : List ℕ) (id : IdView) → None ≡ symbol_of_ident_after_changes (table_changes_from_json text) id
-unfolding changes_of_effects symbol_of_event_at effects_after_events exports_after parents_after symbol_of_ident_after_changes
+unfolding changes_of_effects symbol_of_event_at effects_after_events exports_after_changes parents_after_changes symbol_of_ident_after_changes
 json_maps_none text id = refl
 
-pub json_has_no_star : (text : List ℕ) → [] ≡ export_stars_after (table_changes_from_json text)
-unfolding changes_of_effects symbol_of_event_at effects_after_events exports_after parents_after export_stars_after
+pub json_has_no_star : (text : List ℕ) → [] ≡ export_stars_after_changes (table_changes_from_json text)
+unfolding changes_of_effects symbol_of_event_at effects_after_events exports_after_changes parents_after_changes export_stars_after_changes
 json_has_no_star text = refl
 
 pub err_if : {A P : Type 0} (r : Result A BuildFault) (fault : BuildFault) → IsErrAnd r (λ e. e ≡ fault) → (fault ≡ TooManySymbols → P)

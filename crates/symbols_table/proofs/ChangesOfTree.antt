@@ -5,17 +5,15 @@ use Rattle.std.specs.List.{filter_map, cons_option}
 use Rattle.std.proofs.lemmas.List.Elements.{All-nil, All-cons, All-append}
 use Rattle.symbols_ast.specs.declared.tree.arena.Tree.{Tree}
 use Rattle.symbols_ast.specs.declared.ids.SymbolId.{SymbolId}
-use Rattle.symbols_table.specs.DeclViews.{Declaration, is_definition, decl_name, append_decl_with_overload_flag, last_decl, is_overload_after_decl}
+use Rattle.symbols_table.specs.DeclViews.{Declaration, is_definition, decl_name, append_decl_with_overload_flag, last_decl, gets_overload_flag_after_decl}
 use Rattle.symbols_table.specs.Changes.{Change, adds_symbol, adds_decl, exports, adds_child, adds_member, maps, re_exports_all, some_if, is_same_symbol_id}
-use Rattle.symbols_table.specs.Changes.{decl_added_by, export_star_added_by, decls_after, export_stars_after, symbol_of_ident_after_changes, exported_symbol}
-use Rattle.symbols_table.specs.Changes.{has_function_decl}
+use Rattle.symbols_table.specs.Changes.{decl_added_by, export_star_added_by, decls_after_changes, export_stars_after_changes, symbol_of_ident_after_changes}
+use Rattle.symbols_table.specs.Changes.{exported_symbol_after_changes, has_function_decl}
 use Rattle.symbols_table.specs.Events.{DeclarationEvent, begins, declare, declare_alias, declare_unnamed, default, binds, member, expando, export, child, star}
-use Rattle.symbols_table.specs.Events.{EventEffect, empty_effect}
-use Rattle.symbols_table.specs.Events.{next_symbol_id, new_symbol_effect, effect_of_redeclaring_or, effect_of_existing_symbol_or, effect_if_symbol}
-use Rattle.symbols_table.specs.Events.{new_member_changes}
-use Rattle.symbols_table.specs.Events.{find_member_symbol, member_effect, declare_effect}
-use Rattle.symbols_table.specs.Events.{declare_alias_effect, default_export_effect, default_export_name, expando_effect, effect_of_event, changes_of_effects}
-use Rattle.symbols_table.specs.Events.{symbol_of_event_at, effects_after_events, changes_of_events}
+use Rattle.symbols_table.specs.Events.{EventEffect, empty_effect, next_symbol_id, new_symbol_effect, effect_of_redeclaring_or, effect_of_existing_symbol_or}
+use Rattle.symbols_table.specs.Events.{effect_if_symbol, new_member_changes, find_member_symbol, member_effect, declare_effect}
+use Rattle.symbols_table.specs.Events.{declare_alias_unless_bound_effect, default_export_effect, default_export_name, expando_effect, effect_of_event}
+use Rattle.symbols_table.specs.Events.{changes_of_effects, symbol_of_event_at, effects_after_events, changes_of_events}
 use Rattle.symbols_table.specs.Laws.{IsDeclaredInTree, IsExportStarInTree}
 use Rattle.symbols_table.proofs.Inside.{All-head, All-tail}
 use Rattle.symbols_table.proofs.Rows.{changes_of_effects-push}
@@ -88,7 +86,7 @@ module _ (tree : Tree) where
     default_of : (holder : SymbolId) (decl : Declaration) → IsDeclaredInTree tree decl → AreChangesOf (default_export_effect before holder decl).changes
     default_of holder decl is =
         let more : SymbolId → List Change = λ s. exports holder default_export_name s ∷ (if is_definition decl.kind then adds_child holder s ∷ [] else []) in
-        found_of (exported_symbol before holder default_export_name) decl (new_symbol_effect before (Some holder) decl more) is
+        found_of (exported_symbol_after_changes before holder default_export_name) decl (new_symbol_effect before (Some holder) decl more) is
         (new_of before (Some holder) decl more is (λ s. export_of holder s (is_definition decl.kind)))
 
     expando_of : (found : Option SymbolId) (decl : Declaration) → IsDeclaredInTree tree decl → AreChangesOf (expando_effect before found decl).changes
@@ -104,7 +102,7 @@ module _ (tree : Tree) where
     row_is_of at (declare holder id decl) is = with_of (at holder) (λ h. declare_effect before h id decl) (λ h.
         found_of (symbol_of_ident_after_changes before id) decl (new_symbol_effect before (Some h) decl (λ s. maps id s ∷ [])) is
         (new_of before (Some h) decl (λ s. maps id s ∷ []) is (λ s. one_of (maps id s) tt)))
-    row_is_of at (declare_alias holder id decl) is = with_of (at holder) (λ h. declare_alias_effect before h id decl) (λ h.
+    row_is_of at (declare_alias holder id decl) is = with_of (at holder) (λ h. declare_alias_unless_bound_effect before h id decl) (λ h.
         known_of (symbol_of_ident_after_changes before id) (new_symbol_effect before (Some h) decl (λ s. maps id s ∷ []))
         (new_of before (Some h) decl (λ s. maps id s ∷ []) is (λ s. one_of (maps id s) tt)))
     row_is_of at (declare_unnamed holder decl) is =
@@ -147,7 +145,7 @@ module _ (tree : Tree) where
           → All (IsDeclaredInTree tree) (fold append_decl_with_overload_flag more (filter_map (decl_added_by s) changes)))
           → All (IsDeclaredInTree tree) (fold append_decl_with_overload_flag decls (cons_option (some_if b decl) (filter_map (decl_added_by s) changes)))
       consumed true decl is rest =
-          let flagged : Declaration = record decl { has_overloads = is_overload_after_decl (last_decl decls) decl } in
+          let flagged : Declaration = record decl { has_overloads = gets_overload_flag_after_decl (last_decl decls) decl } in
           rest (decls ++ flagged ∷ []) (All-append (IsDeclaredInTree tree) decls (flagged ∷ []) before
           (All-cons (IsDeclaredInTree tree) flagged [] is (All-nil (IsDeclaredInTree tree))))
       consumed false decl is rest = rest decls before
@@ -164,12 +162,12 @@ module _ (tree : Tree) where
       by (maps _ _) is rest = rest decls before
       by (re_exports_all _) is rest = rest decls before
 
-  pub decls_after-of : (changes : List Change) (s : SymbolId) → AreChangesOf changes → All (IsDeclaredInTree tree) (decls_after changes s)
-  unfolding decls_after
+  pub decls_after-of : (changes : List Change) (s : SymbolId) → AreChangesOf changes → All (IsDeclaredInTree tree) (decls_after_changes changes s)
+  unfolding decls_after_changes
   decls_after-of changes s of_tree = decls_are_of s [] changes (All-nil (IsDeclaredInTree tree)) of_tree
 
-  pub export_stars_after-of : (changes : List Change) → AreChangesOf changes → All (IsExportStarInTree tree) (export_stars_after changes)
-  unfolding export_stars_after
+  pub export_stars_after-of : (changes : List Change) → AreChangesOf changes → All (IsExportStarInTree tree) (export_stars_after_changes changes)
+  unfolding export_stars_after_changes
   export_stars_after-of [] of_tree = All-nil (IsExportStarInTree tree)
   export_stars_after-of (change ∷ changes) of_tree =
       by change (All-head (IsChangeOf tree) change changes of_tree) (export_stars_after-of changes (All-tail (IsChangeOf tree) change changes of_tree))

@@ -18,7 +18,7 @@ use Rattle.symbols_ast.specs.WellFormed.{IsWellFormedTree}
 use Rattle.symbols_table.specs.TreeEvents.{tree_events}
 use Rattle.symbols_table.specs.Analysis.{table_changes_from_tree, symbol_count}
 use Rattle.symbols_table.specs.Symbols.{symbol_decls}
-use Rattle.symbols_table.specs.Changes.{decls_after}
+use Rattle.symbols_table.specs.Changes.{decls_after_changes}
 use Rattle.symbols_table.specs.declared.decl.symbol.Symbol.{Symbol}
 use Rattle.symbols_ast.specs.declared.ids.SymbolId.{SymbolId}
 use Rattle.std.specs.Prelude.{slice_get}
@@ -130,7 +130,7 @@ has_at_most_as_many_declarations tree text none formed = omega (arith, (few_by (
 -- A table with the symbols of the tree's changes has no more symbols and declarations than nodes.
 pub are_few : (tree : Tree) (text : List ℕ) (symbols : List Symbol) → IsFaultlessTree text tree.nodes.items → IsWellFormedTree tree.nodes.items
     → length symbols ≡ symbol_count (table_changes_from_tree tree)
-    → ((s : SymbolId) (symbol : Symbol) → slice_get symbols s.0 ≡ Some symbol → symbol_decls symbol ≡ decls_after (table_changes_from_tree tree) s)
+    → ((s : SymbolId) (symbol : Symbol) → slice_get symbols s.0 ≡ Some symbol → symbol_decls symbol ≡ decls_after_changes (table_changes_from_tree tree) s)
     → AreBoundedByNodes tree symbols
 are_few tree text symbols none formed counted borrowed_symbol = record {
   has_at_most_as_many_symbols = omega (arith, counted, has_at_most_as_many_symbols tree text none formed);

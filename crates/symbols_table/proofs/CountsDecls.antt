@@ -4,9 +4,9 @@ use Rattle.std.specs.List.{filter_map, cons_option, sum_by}
 use Rattle.std.proofs.lemmas.List.{length_push}
 use Rattle.std.proofs.lemmas.List.Sums.{sum_by-cons}
 use Rattle.symbols_ast.specs.declared.ids.SymbolId.{SymbolId}
-use Rattle.symbols_table.specs.DeclViews.{Declaration, append_decl_with_overload_flag, last_decl, is_overload_after_decl}
-use Rattle.symbols_table.specs.Changes.{Change, parents_after, adds_symbol, adds_decl, exports, adds_child, adds_member, maps, re_exports_all, some_if}
-use Rattle.symbols_table.specs.Changes.{decl_added_by, decls_after}
+use Rattle.symbols_table.specs.DeclViews.{Declaration, append_decl_with_overload_flag, last_decl, gets_overload_flag_after_decl}
+use Rattle.symbols_table.specs.Changes.{Change, parents_after_changes, adds_symbol, adds_decl, exports, adds_child, adds_member, maps, re_exports_all, some_if}
+use Rattle.symbols_table.specs.Changes.{decl_added_by, decls_after_changes}
 use Rattle.symbols_table.specs.declared.decl.symbol.Symbol.{Symbol}
 use Rattle.symbols_table.specs.Symbols.{symbol_decls}
 use Rattle.symbols_table.specs.inner.Tables.{NamesSymbolsBelow}
@@ -23,7 +23,7 @@ length_with before (decl ∷ decls) =
       arith,
       length_with (append_decl_with_overload_flag before decl) decls,
       length_push before
-          (record decl { has_overloads = is_overload_after_decl (last_decl before) decl }),
+          (record decl { has_overloads = gets_overload_flag_after_decl (last_decl before) decl }),
     )
 
 abbrev pub symbol_at_number : ℕ → SymbolId
@@ -33,8 +33,8 @@ symbol_at_number n = record { 0 = n }
 abbrev pub decls_among : List Change → ℕ → ℕ
 decls_among changes n = length (filter_map (decl_added_by (symbol_at_number n)) changes)
 
-pub length-decls_after : (changes : List Change) (n : ℕ) → length (decls_after changes (symbol_at_number n)) ≡ decls_among changes n
-unfolding decls_after
+pub length-decls_after : (changes : List Change) (n : ℕ) → length (decls_after_changes changes (symbol_at_number n)) ≡ decls_among changes n
+unfolding decls_after_changes
 length-decls_after changes n = length_with [] (filter_map (decl_added_by (symbol_at_number n)) changes) ∙ omega arith
 
 among_declares : (t : SymbolId) (decl : Declaration) (changes : List Change) (n : ℕ)
@@ -64,8 +64,9 @@ decls_sum count (change ∷ changes) all =
 
 -- If the changes name only symbols below the count, the declarations of these symbols are as many as the changes make.
 pub all_declarations : (count : ℕ) (changes : List Change) → All (NamesSymbolsBelow count) changes
-    → sum_below (λ n. length (decls_after changes (symbol_at_number n))) count ≡ declaration_count changes
-all_declarations count changes all = sum_as (λ n. length (decls_after changes (symbol_at_number n))) (decls_among changes) count (length-decls_after changes)
+    → sum_below (λ n. length (decls_after_changes changes (symbol_at_number n))) count ≡ declaration_count changes
+all_declarations count changes all = sum_as (λ n. length (decls_after_changes changes (symbol_at_number n))) (decls_among changes) count
+    (length-decls_after changes)
     ∙ decls_sum count changes all
 
 -- A sum over a list is the sum over its indices.
@@ -76,11 +77,11 @@ sum_by_indices g f (x ∷ xs) each =
     omega (arith, sum_by-cons g x xs, each 0 x refl, sum_by_indices g (λ n. f (suc n)) xs (λ n y at. each (suc n) y at), sum-first f (length xs))
 
 -- A list of symbols with the declarations of the changes has as many declarations as the changes make.
-pub module_declarations : (symbols : List Symbol) (changes : List Change) → length symbols ≡ length (parents_after changes)
-    → ((s : SymbolId) (symbol : Symbol) → slice_get symbols s.0 ≡ Some symbol → symbol_decls symbol ≡ decls_after changes s)
-    → All (NamesSymbolsBelow (length (parents_after changes))) changes → count_of_declarations symbols ≡ declaration_count changes
+pub module_declarations : (symbols : List Symbol) (changes : List Change) → length symbols ≡ length (parents_after_changes changes)
+    → ((s : SymbolId) (symbol : Symbol) → slice_get symbols s.0 ≡ Some symbol → symbol_decls symbol ≡ decls_after_changes changes s)
+    → All (NamesSymbolsBelow (length (parents_after_changes changes))) changes → count_of_declarations symbols ≡ declaration_count changes
 module_declarations symbols changes count borrowed_symbol all =
-    let decls : ℕ → ℕ = λ n. length (decls_after changes (symbol_at_number n)) in
+    let decls : ℕ → ℕ = λ n. length (decls_after_changes changes (symbol_at_number n)) in
     let names_are_in_insertion_order = sum_by_indices (λ (symbol : Symbol). length (symbol_decls symbol)) decls symbols
     (λ n symbol at. ap length (borrowed_symbol (symbol_at_number n) symbol at)) in
-    names_are_in_insertion_order ∙ ap (sum_below decls) count ∙ all_declarations (length (parents_after changes)) changes all
+    names_are_in_insertion_order ∙ ap (sum_below decls) count ∙ all_declarations (length (parents_after_changes changes)) changes all

@@ -5,16 +5,13 @@ use Rattle.std.proofs.lemmas.List.{length-append}
 use Rattle.std.proofs.lemmas.List.Elements.{filter_map-append}
 use Rattle.symbols_ast.specs.declared.ids.SymbolId.{SymbolId}
 use Rattle.symbols_table.specs.DeclViews.{Declaration, is_definition, decl_name}
-use Rattle.symbols_table.specs.Changes.{Change, exports, adds_child, maps, parent_of_symbol_made_by, parents_after, symbol_of_ident_after_changes}
-use Rattle.symbols_table.specs.Changes.{exported_symbol}
-use Rattle.symbols_table.specs.Changes.{has_function_decl}
+use Rattle.symbols_table.specs.Changes.{Change, exports, adds_child, maps, parent_of_symbol_made_by, parents_after_changes, symbol_of_ident_after_changes}
+use Rattle.symbols_table.specs.Changes.{exported_symbol_after_changes, has_function_decl}
 use Rattle.symbols_table.specs.Events.{DeclarationEvent, begins, declare, declare_alias, declare_unnamed, default, binds, member, expando, export, child, star}
-use Rattle.symbols_table.specs.Events.{EventEffect, empty_effect}
-use Rattle.symbols_table.specs.Events.{new_symbol_effect, effect_of_redeclaring_or, effect_of_existing_symbol_or, new_member_changes, find_member_symbol}
-use Rattle.symbols_table.specs.Events.{member_effect}
-use Rattle.symbols_table.specs.Events.{declare_effect, declare_alias_effect, default_export_effect, default_export_name}
-use Rattle.symbols_table.specs.Events.{expando_effect, effect_if_symbol, effect_of_event, changes_of_effects, symbol_of_event_at, effects_after_events}
-use Rattle.symbols_table.specs.Events.{changes_of_events, effect_of_changes, effect_yielding_symbol}
+use Rattle.symbols_table.specs.Events.{EventEffect, empty_effect, new_symbol_effect, effect_of_redeclaring_or, effect_of_existing_symbol_or, new_member_changes}
+use Rattle.symbols_table.specs.Events.{find_member_symbol, member_effect, declare_effect, declare_alias_unless_bound_effect, default_export_effect}
+use Rattle.symbols_table.specs.Events.{default_export_name, expando_effect, effect_if_symbol, effect_of_event, changes_of_effects, symbol_of_event_at}
+use Rattle.symbols_table.specs.Events.{effects_after_events, changes_of_events, effect_of_changes, effect_yielding_symbol}
 use Rattle.symbols_table.proofs.Sums.{declared_in, declaration_count}
 use Rattle.symbols_table.proofs.Rows.{changes_of_effects-push}
 
@@ -45,7 +42,7 @@ few_no_symbol n = record { symbols = omega arith; declarations = omega arith }
 few_new : (before : List Change) (parent : Option SymbolId) (decl : Declaration) (more : SymbolId → List Change) → ((s : SymbolId) → IsFew (more s) 0)
     → IsFew (new_symbol_effect before parent decl more).changes 1
 few_new before parent decl more quiet =
-    let none = quiet (record { 0 = length (parents_after before) }) in
+    let none = quiet (record { 0 = length (parents_after_changes before) }) in
     record { symbols = omega (arith, none.symbols); declarations = omega (arith, none.declarations) }
 
 few_found : (found : Option SymbolId) (decl : Declaration) (row : EventEffect) → IsFew row.changes 1 → IsFew (effect_of_redeclaring_or found decl row).changes 1
@@ -68,7 +65,7 @@ few_export holder s false = record { symbols = omega arith; declarations = omega
 few_default : (before : List Change) (holder : SymbolId) (decl : Declaration) → IsFew (default_export_effect before holder decl).changes 1
 few_default before holder decl =
     let more : SymbolId → List Change = λ s. exports holder default_export_name s ∷ (if is_definition decl.kind then adds_child holder s ∷ [] else []) in
-    few_found (exported_symbol before holder default_export_name) decl (new_symbol_effect before (Some holder) decl more)
+    few_found (exported_symbol_after_changes before holder default_export_name) decl (new_symbol_effect before (Some holder) decl more)
     (few_new before (Some holder) decl more (λ s. few_export holder s (is_definition decl.kind)))
 
 few_of_member : (holder : SymbolId) (is_static : Bool) (name : Option (List ℕ)) (s : SymbolId) → IsFew (new_member_changes holder is_static name s) 0
@@ -98,7 +95,7 @@ few_row before at (declare holder id decl) =
     (new_symbol_effect before (Some h) decl
     (λ s. maps id s ∷ [])) (few_new before (Some h) decl (λ s. maps id s ∷ []) (λ s. record { symbols = omega arith; declarations = omega arith })))
 few_row before at (declare_alias holder id decl) =
-    few_with 1 (at holder) (λ h. declare_alias_effect before h id decl)
+    few_with 1 (at holder) (λ h. declare_alias_unless_bound_effect before h id decl)
     (λ h. few_known (symbol_of_ident_after_changes before id) (new_symbol_effect before (Some h) decl (λ s. maps id s ∷ []))
     (few_new before (Some h) decl (λ s. maps id s ∷ []) (λ s. record { symbols = omega arith; declarations = omega arith })))
 few_row before at (declare_unnamed holder decl) = few_with 1 (at holder) (λ h. new_symbol_effect before (Some h) decl (λ _. []))
@@ -145,6 +142,6 @@ unfolding changes_of_effects
 few_by events = few_as (changes_of_events events) (0 + count events) (count events) (omega arith)
     (few_after [] events 0 (record { symbols = omega arith; declarations = omega arith }))
 
-pub symbols_by : (events : List DeclarationEvent) → length (parents_after (changes_of_events events)) ≤ count events
-unfolding parents_after
+pub symbols_by : (events : List DeclarationEvent) → length (parents_after_changes (changes_of_events events)) ≤ count events
+unfolding parents_after_changes
 symbols_by events = (few_by events).symbols

@@ -7,7 +7,7 @@ use Rattle.symbols_ast.specs.declared.tree.kinds.Member.TheVariants as Member
 use Rattle.symbols_ast.specs.declared.tree.kinds.Pat.TheVariants as Pat
 use Rattle.symbols_ast.specs.declared.tree.kinds.Expr.TheVariants as Expr
 use Rattle.symbols_ast.specs.Nodes.{child_numbers}
-use Rattle.symbols_ast.specs.ChildFields.{body_of, name_of, class_of, body_node_of, decl_of}
+use Rattle.symbols_ast.specs.ChildFields.{body_children_of, name_child_of, class_child_of, body_child_of, decl_child_of}
 use Rattle.symbols_table.specs.Patterns.{pattern_parts}
 use Rattle.symbols_table.proofs.CountsWeights.{weights, weights-append}
 
@@ -19,7 +19,7 @@ module _ (w : ℕ → ℕ) where
   w_after : (xs ys zs : List ℕ) → weights w zs ≤ weights w ys → weights w zs ≤ weights w (xs ++ ys)
   w_after xs ys zs le = omega (arith, weights-append w xs ys, le)
 
-  pub body_weighs : (kind : Kind) → weights w (body_of kind) ≤ weights w (child_numbers kind)
+  pub body_weighs : (kind : Kind) → weights w (body_children_of kind) ≤ weights w (child_numbers kind)
   body_weighs (Kind.Item (Item.Program body)) = w_first body.items []
   body_weighs (Kind.Decl (Decl.Class type_params super_class super_type_params implements body)) =
       w_after (option_to_list type_params) _ body.items
@@ -31,16 +31,16 @@ module _ (w : ℕ → ℕ) where
   body_weighs (Kind.Decl (Decl.TsModuleBlock body)) = w_first body.items []
   body_weighs _ = omega arith
 
-  pub name_weighs : (kind : Kind) → weights w (option_to_list (name_of kind)) ≤ weights w (child_numbers kind)
+  pub name_weighs : (kind : Kind) → weights w (option_to_list (name_child_of kind)) ≤ weights w (child_numbers kind)
   name_weighs (Kind.Decl (Decl.VarDeclarator name init)) = w_first (name ∷ []) _
   name_weighs _ = omega arith
 
-  pub class_weighs : (kind : Kind) → weights w (option_to_list (class_of kind)) ≤ weights w (child_numbers kind)
+  pub class_weighs : (kind : Kind) → weights w (option_to_list (class_child_of kind)) ≤ weights w (child_numbers kind)
   class_weighs (Kind.Decl (Decl.ClassDecl ident class)) = omega arith
   class_weighs (Kind.Decl (Decl.ClassExpr ident class)) = w_after (option_to_list ident) _ (class ∷ []) (w_first (class ∷ []) [])
   class_weighs _ = omega arith
 
-  pub body_node_weighs : (kind : Kind) → weights w (option_to_list (body_node_of kind)) ≤ weights w (child_numbers kind)
+  pub body_node_weighs : (kind : Kind) → weights w (option_to_list (body_child_of kind)) ≤ weights w (child_numbers kind)
   body_node_weighs (Kind.Decl (Decl.Function type_params params return_type body)) =
       w_after (option_to_list type_params) _ (option_to_list body)
       (w_after params.items _ (option_to_list body) (w_after (option_to_list return_type) _ (option_to_list body) (w_first (option_to_list body) [])))
@@ -52,7 +52,7 @@ module _ (w : ℕ → ℕ) where
       (w_after params.items _ (body ∷ []) (w_after (option_to_list return_type) _ (body ∷ []) (w_first (body ∷ []) [])))
   body_node_weighs _ = omega arith
 
-  pub decl_weighs : (kind : Kind) → weights w (option_to_list (decl_of kind)) ≤ weights w (child_numbers kind)
+  pub decl_weighs : (kind : Kind) → weights w (option_to_list (decl_child_of kind)) ≤ weights w (child_numbers kind)
   decl_weighs (Kind.Item (Item.ExportDecl decl)) = w_first (decl ∷ []) []
   decl_weighs (Kind.Item (Item.ExportDefaultDecl decl)) = w_first (decl ∷ []) []
   decl_weighs _ = omega arith

@@ -13,15 +13,15 @@ use Rattle.symbols_ast.specs.declared.tree.kinds.Member.TheVariants as Member
 use Rattle.symbols_ast.specs.declared.tree.kinds.Pat.TheVariants as Pat
 use Rattle.symbols_ast.specs.Nodes.{kind_at, child_numbers}
 use Rattle.symbols_ast.specs.NodeRefs.{TreeNode, kind_of, node_in, child_in_field, child_list_in_field}
-use Rattle.symbols_ast.specs.ChildFields.{body_of, class_of, decls_of, name_of}
+use Rattle.symbols_ast.specs.ChildFields.{body_children_of, class_child_of, decl_children_of, name_child_of}
 use Rattle.symbols_ast.specs.Ids.{IdView, id_view, ident_id}
 use Rattle.symbols_nodes.specs.NodeViews.{SymbolNodeView, ExportDeclView}
 use Rattle.symbols_table.specs.declared.builder.scope.Scope.{Scope}
 use Rattle.symbols_table.specs.DeclViews.{Declaration, definition_of_node}
 use Rattle.symbols_table.specs.EventsByHolderAndStart.{EventsByHolderAndStart, no_events_by_holder_and_start, events_if_some, events_of_each, range_or_empty}
-use Rattle.symbols_table.specs.Patterns.{pattern_bindings, pattern_bindings_within, pattern_bindings_below, pattern_parts}
-use Rattle.symbols_table.specs.MemberEvents.{class_or_interface_member_nodes, member_nodes, member_event, constructor_param_events, constructor_param_events_at}
-use Rattle.symbols_table.specs.MemberEvents.{node_of_non_constructor_member, member_events, member_events_at}
+use Rattle.symbols_table.specs.Patterns.{pattern_bindings, pattern_bindings_within_levels, pattern_bindings_below, pattern_parts}
+use Rattle.symbols_table.specs.MemberEvents.{class_or_interface_members_by_kind, class_or_interface_member_numbers, member_event, constructor_param_events}
+use Rattle.symbols_table.specs.MemberEvents.{constructor_param_events_at, node_of_non_constructor_member, member_events, member_events_at}
 use Rattle.symbols_table.specs.DeclarationEvents.{maybe_exported_node, export_or_decl_range, is_exported, variable_node, export_event_if}
 use Rattle.symbols_table.specs.DeclarationEvents.{child_and_export_events}
 use Rattle.symbols_table.specs.DeclarationEvents.{declare_and_add_events, VariableStatement, binding_events, binding_events_at, declarator_events}
@@ -142,38 +142,39 @@ module _ (tree : Tree) (w : ℕ → ℕ) (weighs : (n : ℕ) (kind : Kind) → k
           (λ m is holder start. omega arith)
 
   -- The body list of a node weighs at most as much as the node.
-  pub body_of_node : (c : ℕ) → weights w (child_list_in_field (node_at tree c) body_of) ≤ w c
+  pub body_of_node : (c : ℕ) → weights w (child_list_in_field (node_at tree c) body_children_of) ≤ w c
   body_of_node c = by (kinds tree c) refl
     where
-      by : (o : Option Kind) → kinds tree c ≡ o → weights w (option_map_or body_of o []) ≤ w c
+      by : (o : Option Kind) → kinds tree c ≡ o → weights w (option_map_or body_children_of o []) ≤ w c
       by None is = omega arith
       by (Some kind) is = omega (arith, weighs c kind is, body_weighs w kind)
 
-  body_of_child : (found : Option ℕ) → weights w (option_map_or (λ (class : TreeNode). child_list_in_field class body_of) (node_in tree found) [])
+  body_of_child : (found : Option ℕ) → weights w (option_map_or (λ (class : TreeNode). child_list_in_field class body_children_of) (node_in tree found) [])
       ≤ weights w (option_to_list found)
   body_of_child None = omega arith
   body_of_child (Some c) = by (ltb c (length tree.nodes.items))
     where
-      by : (b : Bool) → weights w (option_map_or (λ (class : TreeNode). child_list_in_field class body_of) (cond b (Some (node_at tree c)) None) []) ≤ weights w
-          (c ∷ [])
+      by : (b : Bool) → weights w (option_map_or (λ (class : TreeNode). child_list_in_field class body_children_of) (cond b (Some (node_at tree c)) None) [])
+          ≤ weights w (c ∷ [])
       by true = omega (arith, body_of_node c)
       by false = omega arith
 
-  members_weigh : (n : ℕ) (kind : Kind) → kinds tree n ≡ Some kind → weights w (member_nodes (node_at tree n)) ≤ weights w (child_numbers kind)
+  members_weigh : (n : ℕ) (kind : Kind) → kinds tree n ≡ Some kind → weights w (class_or_interface_member_numbers (node_at tree n))
+      ≤ weights w (child_numbers kind)
   members_weigh n kind is = rw is (by kind is)
     where
-      by : (kind : Kind) → kinds tree n ≡ Some kind → weights w (class_or_interface_member_nodes (node_at tree n) kind) ≤ weights w (child_numbers kind)
+      by : (kind : Kind) → kinds tree n ≡ Some kind → weights w (class_or_interface_members_by_kind (node_at tree n) kind) ≤ weights w (child_numbers kind)
       by (Kind.Decl (Decl.TsInterfaceDecl id type_params extends body)) is =
           rw is (body_weighs w (Kind.Decl (Decl.TsInterfaceDecl id type_params extends body)))
-      by kind is = rw is (omega (arith, class_weighs w kind, body_of_child (class_of kind)))
+      by kind is = rw is (omega (arith, class_weighs w kind, body_of_child (class_child_of kind)))
 
   -- The declaring events of a class's or an interface's members are at most as many as the children of its kind weigh.
   pub light_members : (n : ℕ) (kind : Kind) → kinds tree n ≡ Some kind
-      → IsLight (events_of_each (member_events_at tree) (member_nodes (node_at tree n))) (weights w (child_numbers kind))
+      → IsLight (events_of_each (member_events_at tree) (class_or_interface_member_numbers (node_at tree n))) (weights w (child_numbers kind))
   light_members n kind is =
-      light_up (events_of_each (member_events_at tree) (member_nodes (node_at tree n))) (weights w (member_nodes (node_at tree n)))
-      (weights w (child_numbers kind))
-      (members_weigh n kind is) (light_each (member_events_at tree) w (member_nodes (node_at tree n)) light_member)
+      light_up (events_of_each (member_events_at tree) (class_or_interface_member_numbers (node_at tree n)))
+      (weights w (class_or_interface_member_numbers (node_at tree n))) (weights w (child_numbers kind))
+      (members_weigh n kind is) (light_each (member_events_at tree) w (class_or_interface_member_numbers (node_at tree n)) light_member)
 
   -- ---- variables
 
@@ -181,18 +182,18 @@ module _ (tree : Tree) (w : ℕ → ℕ) (weighs : (n : ℕ) (kind : Kind) → k
   flat_weighs inner [] below = omega arith
   flat_weighs inner (x ∷ xs) below = omega (arith, below x, flat_weighs inner xs below, length-append (inner x) (flat_map inner xs))
 
-  leaves_weigh : (levels n : ℕ) → length (pattern_bindings_within tree levels n) ≤ w n
-  unfolding pattern_bindings_within
+  leaves_weigh : (levels n : ℕ) → length (pattern_bindings_within_levels tree levels n) ≤ w n
+  unfolding pattern_bindings_within_levels
   leaves_weigh zero n = omega arith
   leaves_weigh (suc levels) n = by (kinds tree n) refl (leaves_weigh levels)
     where
-      below : (kind : Kind) → suc (weights w (child_numbers kind)) ≤ w n → ((x : ℕ) → length (pattern_bindings_within tree levels x) ≤ w x)
-          → length (pattern_bindings_below (pattern_bindings_within tree levels) n kind) ≤ w n
+      below : (kind : Kind) → suc (weights w (child_numbers kind)) ≤ w n → ((x : ℕ) → length (pattern_bindings_within_levels tree levels x) ≤ w x)
+          → length (pattern_bindings_below (pattern_bindings_within_levels tree levels) n kind) ≤ w n
       below (Kind.Pat (Pat.BindingIdent _ _)) heavy rest = omega arith
-      below kind heavy rest = omega (arith, parts_weigh w kind, flat_weighs (pattern_bindings_within tree levels) (pattern_parts kind) rest)
+      below kind heavy rest = omega (arith, parts_weigh w kind, flat_weighs (pattern_bindings_within_levels tree levels) (pattern_parts kind) rest)
 
-      by : (o : Option Kind) → kinds tree n ≡ o → ((x : ℕ) → length (pattern_bindings_within tree levels x) ≤ w x)
-          → length (option_map_or (pattern_bindings_below (pattern_bindings_within tree levels) n) o []) ≤ w n
+      by : (o : Option Kind) → kinds tree n ≡ o → ((x : ℕ) → length (pattern_bindings_within_levels tree levels x) ≤ w x)
+          → length (option_map_or (pattern_bindings_below (pattern_bindings_within_levels tree levels) n) o []) ≤ w n
       by None is rest = omega arith
       by (Some kind) is rest = below kind (weighs n kind is) rest
 
@@ -209,7 +210,7 @@ module _ (tree : Tree) (w : ℕ → ℕ) (weighs : (n : ℕ) (kind : Kind) → k
 
     light_declarator : (n : ℕ) → IsLight (declarator_events_at variables n) (w n)
     light_declarator n = light_node tree (Some n) (declarator_events variables) (w n)
-        (λ c here. rw (← same_Some n c here) (light_field tree n name_of (bindings n) (w n) (λ kind p is field.
+        (λ c here. rw (← same_Some n c here) (light_field tree n name_child_of (bindings n) (w n) (λ kind p is field.
         let leaves = pattern_bindings tree p in
         let name : w p ≤ weights w (child_numbers kind) = omega (arith, rw field at (name_weighs w kind)) in
         light_up (bindings n (node_at tree p)) (length leaves) (w n) (omega (arith, name, weighs n kind is, leaves_weigh (length tree.nodes.items) p))
@@ -218,8 +219,8 @@ module _ (tree : Tree) (w : ℕ → ℕ) (weighs : (n : ℕ) (kind : Kind) → k
         bindings : ℕ → TreeNode → EventsByHolderAndStart
         bindings n pattern = events_of_each (binding_events_at variables (node_at tree n)) (pattern_bindings tree pattern.number)
 
-    light_variables : (kind : Kind) → kinds tree m ≡ Some kind → IsLight (variable_statement_events variables) (weights w (decls_of kind))
-    light_variables kind is = rw is (light_each (declarator_events_at variables) w (decls_of kind) light_declarator)
+    light_variables : (kind : Kind) → kinds tree m ≡ Some kind → IsLight (variable_statement_events variables) (weights w (decl_children_of kind))
+    light_variables kind is = rw is (light_each (declarator_events_at variables) w (decl_children_of kind) light_declarator)
 
   -- ---- declarations with an identifier
 
@@ -232,7 +233,7 @@ module _ (tree : Tree) (w : ℕ → ℕ) (weighs : (n : ℕ) (kind : Kind) → k
       (weights w (child_numbers kind)) (light_members n kind is)))
     where
       members : EventsByHolderAndStart
-      members = events_of_each (member_events_at tree) (member_nodes (node_at tree n))
+      members = events_of_each (member_events_at tree) (class_or_interface_member_numbers (node_at tree n))
 
       walk : Id → EventsByHolderAndStart
       walk id = declare_and_add_events (is_exported scope exported) (id_view id)

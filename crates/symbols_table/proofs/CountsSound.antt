@@ -9,16 +9,14 @@ use Rattle.std.proofs.lemmas.List.Elements.{All-nil, All-cons, All-append, All-w
 use Rattle.symbols_ast.specs.declared.ids.SymbolId.{SymbolId}
 use Rattle.symbols_ast.specs.Ids.{IdView}
 use Rattle.symbols_table.specs.DeclViews.{Declaration, is_definition, decl_name}
-use Rattle.symbols_table.specs.Changes.{Change, adds_symbol, adds_decl, exports, adds_child, adds_member, maps, re_exports_all}
-use Rattle.symbols_table.specs.Changes.{parent_of_symbol_made_by, parents_after, symbol_of_ident_after_changes, exported_symbol, first_child_named}
+use Rattle.symbols_table.specs.Changes.{Change, adds_symbol, adds_decl, exports, adds_child, adds_member, maps, re_exports_all, parent_of_symbol_made_by}
+use Rattle.symbols_table.specs.Changes.{parents_after_changes, symbol_of_ident_after_changes, exported_symbol_after_changes, first_child_named}
 use Rattle.symbols_table.specs.Changes.{has_function_decl}
-use Rattle.symbols_table.specs.Events.{DeclarationEvent, begins, declare, declare_alias, declare_unnamed, default, binds, member, expando, export, child}
-use Rattle.symbols_table.specs.Events.{star, EventEffect, empty_effect, effect_of_changes, effect_yielding_symbol, next_symbol_id, new_symbol_effect}
-use Rattle.symbols_table.specs.Events.{effect_of_redeclaring_or, effect_of_existing_symbol_or}
-use Rattle.symbols_table.specs.Events.{new_member_changes, find_member_symbol, member_effect, declare_effect, declare_alias_effect, default_export_effect}
-use Rattle.symbols_table.specs.Events.{default_export_name}
-use Rattle.symbols_table.specs.Events.{expando_effect, effect_if_symbol, effect_of_event, changes_of_effects, symbol_of_event_at, effects_after_events}
-use Rattle.symbols_table.specs.Events.{changes_of_events}
+use Rattle.symbols_table.specs.Events.{DeclarationEvent, begins, declare, declare_alias, declare_unnamed, default, binds, member, expando, export, child, star}
+use Rattle.symbols_table.specs.Events.{EventEffect, empty_effect, effect_of_changes, effect_yielding_symbol, next_symbol_id, new_symbol_effect}
+use Rattle.symbols_table.specs.Events.{effect_of_redeclaring_or, effect_of_existing_symbol_or, new_member_changes, find_member_symbol, member_effect}
+use Rattle.symbols_table.specs.Events.{declare_effect, declare_alias_unless_bound_effect, default_export_effect, default_export_name, expando_effect}
+use Rattle.symbols_table.specs.Events.{effect_if_symbol, effect_of_event, changes_of_effects, symbol_of_event_at, effects_after_events, changes_of_events}
 use Rattle.symbols_table.specs.inner.Tables.{NamesSymbolsBelow}
 use Rattle.symbols_table.proofs.Inside.{Below, mapped_inside, exported_inside}
 use Rattle.symbols_table.proofs.LocalNames.{child_inside, member_inside}
@@ -82,7 +80,7 @@ member_fits k holder true (Some name) s h l = All-cons (NamesSymbolsBelow k) (ex
     (all_one k (adds_child holder s) (h, l))
 member_fits k holder false name s h l = all_one k (adds_member holder s) (h, l)
 
-module _ (before : List Change) (n : ℕ) (is : n ≡ length (parents_after before)) (sound : All (NamesSymbolsBelow n) before) where
+module _ (before : List Change) (n : ℕ) (is : n ≡ length (parents_after_changes before)) (sound : All (NamesSymbolsBelow n) before) where
   row_new : (parent : Option SymbolId) (decl : Declaration) (more : SymbolId → List Change)
       → ((k : ℕ) (s : SymbolId) → n < k → s.0 < k → All (NamesSymbolsBelow k) (more s))
       → RowFits n (new_symbol_effect before parent decl more)
@@ -98,13 +96,13 @@ module _ (before : List Change) (n : ℕ) (is : n ≡ length (parents_after befo
   row_default : (holder : SymbolId) (decl : Declaration) → holder.0 < n → RowFits n (default_export_effect before holder decl)
   row_default holder decl h =
       let more : SymbolId → List Change = λ s. exports holder default_export_name s ∷ (if is_definition decl.kind then adds_child holder s ∷ [] else []) in
-      row_found n (exported_symbol before holder default_export_name) decl (new_symbol_effect before (Some holder) decl more)
+      row_found n (exported_symbol_after_changes before holder default_export_name) decl (new_symbol_effect before (Some holder) decl more)
       (exported_inside n before holder default_export_name sound)
       (row_new (Some holder) decl more (λ k s room inside. default_fits k holder s (is_definition decl.kind) (omega arith) inside))
 
   found_below : (holder : SymbolId) (is_static : Bool) (name : Option (List ℕ)) → IfSome (find_member_symbol before holder is_static name) (Below n)
   found_below holder is_static None = tt
-  found_below holder true (Some name) = option_or_below n (exported_symbol before holder name) (first_child_named before holder name)
+  found_below holder true (Some name) = option_or_below n (exported_symbol_after_changes before holder name) (first_child_named before holder name)
       (exported_inside n before holder name sound) (child_inside n before holder name sound)
   found_below holder false (Some name) = member_inside n before holder name sound
 
@@ -132,7 +130,7 @@ module _ (before : List Change) (n : ℕ) (is : n ≡ length (parents_after befo
       row_with n (at holder) (λ h. declare_effect before h id decl) (inside holder) (λ h l. row_found n (symbol_of_ident_after_changes before id) decl
       (new_symbol_effect before (Some h) decl (λ s. maps id s ∷ [])) (mapped_inside n before id sound) (row_mapped h id decl))
   row_fits at inside (declare_alias holder id decl) =
-      row_with n (at holder) (λ h. declare_alias_effect before h id decl) (inside holder) (λ h l.
+      row_with n (at holder) (λ h. declare_alias_unless_bound_effect before h id decl) (inside holder) (λ h l.
       row_known n (symbol_of_ident_after_changes before id) (new_symbol_effect before (Some h) decl (λ s. maps id s ∷ [])) (mapped_inside n before id sound)
       (row_mapped h id decl))
   row_fits at inside (declare_unnamed holder decl) =
@@ -156,7 +154,7 @@ module _ (before : List Change) (n : ℕ) (is : n ≡ length (parents_after befo
 -- ---- all rows
 
 abbrev symbols : List EventEffect → ℕ
-symbols rows = length (parents_after (changes_of_effects rows))
+symbols rows = length (parents_after_changes (changes_of_effects rows))
 
 record AreSound (rows : List EventEffect) : Type 0 where
   fits : All (NamesSymbolsBelow (symbols rows)) (changes_of_effects rows)
@@ -204,5 +202,5 @@ unfolding changes_of_effects symbol_of_event_at
 none_sound = record { fits = All-nil (NamesSymbolsBelow (symbols [])); inside = λ index. tt }
 
 -- The changes of events name only symbols below the number that they make.
-pub sound_by : (events : List DeclarationEvent) → All (NamesSymbolsBelow (length (parents_after (changes_of_events events)))) (changes_of_events events)
+pub sound_by : (events : List DeclarationEvent) → All (NamesSymbolsBelow (length (parents_after_changes (changes_of_events events)))) (changes_of_events events)
 sound_by events = (all_sound [] events none_sound).fits

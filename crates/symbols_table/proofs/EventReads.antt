@@ -6,7 +6,7 @@ use Rattle.symbols_ast.specs.Ids.{IdView}
 use Rattle.symbols_ast.specs.declared.ids.SymbolId.{SymbolId}
 use Rattle.symbols_table.specs.declared.builder.table.ModuleBuilder.{ModuleBuilder}
 use Rattle.symbols_table.specs.declared.builder.table.BuildFault.{BuildFault}
-use Rattle.symbols_table.specs.Changes.{parents_after}
+use Rattle.symbols_table.specs.Changes.{parents_after_changes}
 use Rattle.symbols_table.specs.DeclViews.{Declaration}
 use Rattle.symbols_table.specs.Events.{DeclarationEvent, EventEffect, member, member_effect, declare, declare_effect, effect_of_event, changes_of_effects}
 use Rattle.symbols_table.specs.Events.{symbol_of_event_at, effects_after_events}
@@ -58,7 +58,7 @@ module _ (rows : List EventEffect) (event : DeclarationEvent) (row : EventEffect
   inner_fault A {B} (Ok x) limit now next new walk s rest fault same is of h reads_inner = absurd h
   inner_fault A {B} (Err e) limit now next new walk s rest fault same is of h reads_inner = λ many.
       let inner = walk (length rows) (length rows + 1) in
-      let here : now.setting.limit < length (parents_after (changes_of_effects (effects_after_events (rows ++ row ∷ []) inner))) =
+      let here : now.setting.limit < length (parents_after_changes (changes_of_effects (effects_after_events (rows ++ row ∷ []) inner))) =
       inner_read {A = A} (Err fault) now next walk s is of reads_inner (sym h ∙ many) in
       rw (around_rows inner rest) (omega (arith, same, here, parents_after_grow (effects_after_events (rows ++ row ∷ []) inner) rest))
 

@@ -14,7 +14,8 @@ use Rattle.symbols_ast.specs.declared.tree.kinds.Decl.TheVariants as Decl
 use Rattle.symbols_ast.specs.declared.tree.kinds.Member.TheVariants as Member
 use Rattle.symbols_ast.specs.declared.tree.kinds.Expr.TheVariants as Expr
 use Rattle.symbols_ast.specs.NodeRefs.{TreeNode, kind_of, node_in, child_in_field, child_list_in_field}
-use Rattle.symbols_ast.specs.ChildFields.{body_of, body_node_of, decl_of, decls_of, expr_of, orig_of, local_of, id_of, name_of}
+use Rattle.symbols_ast.specs.ChildFields.{body_children_of, body_child_of, decl_child_of, decl_children_of, expr_child_of, orig_child_of, local_child_of}
+use Rattle.symbols_ast.specs.ChildFields.{id_child_of, name_child_of}
 use Rattle.symbols_ast.specs.Ids.{IdView, id_view, ident_id}
 use Rattle.symbols_nodes.specs.DottedNames.{DottedName, entity_name}
 use Rattle.symbols_nodes.specs.Expando.{Expando, expando_of_assignment}
@@ -28,24 +29,23 @@ use Rattle.symbols_table.specs.Laws.{IsTreeNode, IsDeclaredInTree, IsExportStarI
 use Rattle.symbols_table.specs.EventsByHolderAndStart.{EventsByHolderAndStart, no_events_by_holder_and_start, events_if_some, events_of_each, range_or_empty}
 use Rattle.symbols_table.specs.EventsByHolderAndStart.{id_of_ident_child}
 use Rattle.symbols_table.specs.Patterns.{pattern_bindings}
-use Rattle.symbols_table.specs.MemberEvents.{member_nodes, member_event, constructor_param_events, constructor_param_events_at, node_of_non_constructor_member}
-use Rattle.symbols_table.specs.MemberEvents.{member_events, member_events_at}
+use Rattle.symbols_table.specs.MemberEvents.{class_or_interface_member_numbers, member_event, constructor_param_events, constructor_param_events_at}
+use Rattle.symbols_table.specs.MemberEvents.{node_of_non_constructor_member, member_events, member_events_at}
 use Rattle.symbols_table.specs.DeclarationEvents.{maybe_exported_node, unexported_node_view, export_or_decl_range, is_exported, variable_node, export_event_if}
 use Rattle.symbols_table.specs.DeclarationEvents.{child_and_export_events, declare_and_add_events, VariableStatement, binding_events, binding_events_at}
 use Rattle.symbols_table.specs.DeclarationEvents.{declarator_events}
 use Rattle.symbols_table.specs.DeclarationEvents.{declarator_events_at, variable_statement_events, export_decl_view_of_kind, declared_name, named_decl_events}
 use Rattle.symbols_table.specs.DeclarationEvents.{declaration_events}
 use Rattle.symbols_table.specs.ModuleEvents.{import_dep_name, import_decl_events, import_specifier_events, import_specifier_events_at}
-use Rattle.symbols_table.specs.ModuleEvents.{new_exported_symbol_events, orig_specifier_name, orig_specifier_decl_kind}
-use Rattle.symbols_table.specs.ModuleEvents.{export_named_specifier_events, export_specifier_events, export_specifier_events_at, bind_events_if}
-use Rattle.symbols_table.specs.ModuleEvents.{default_decl_events, default_export_events, default_expr_decl}
-use Rattle.symbols_table.specs.ModuleEvents.{export_assignment_events, import_equals_decl_kind, import_equals_alias_events, import_equals_events}
-use Rattle.symbols_table.specs.ModuleEvents.{expando_events, import_export_or_expando_events}
+use Rattle.symbols_table.specs.ModuleEvents.{new_exported_symbol_events, orig_specifier_name, orig_specifier_decl_kind, export_named_specifier_events}
+use Rattle.symbols_table.specs.ModuleEvents.{export_specifier_events, export_specifier_events_at, bind_events_if, default_decl_events, default_export_events}
+use Rattle.symbols_table.specs.ModuleEvents.{default_expr_decl, export_assignment_of_ident_events, import_equals_decl_kind, import_equals_alias_events}
+use Rattle.symbols_table.specs.ModuleEvents.{import_equals_events, expando_events, import_export_or_expando_events}
 use Rattle.symbols_table.specs.TreeEvents.{Namespace, as_namespace, exported_namespace, namespace_of, is_ambient_namespace, namespace_scope, ItemListEvents}
-use Rattle.symbols_table.specs.TreeEvents.{namespace_name_part_events, namespace_body_events_of_kind, namespace_body_events_within, namespace_body_events}
-use Rattle.symbols_table.specs.TreeEvents.{namespace_events, export_decl_events, non_namespace_item_events}
-use Rattle.symbols_table.specs.TreeEvents.{namespace_events_or, item_events, item_events_within, item_list_events_within, module_scope, program_node}
-use Rattle.symbols_table.specs.TreeEvents.{program_decl, tree_events}
+use Rattle.symbols_table.specs.TreeEvents.{namespace_name_part_events, namespace_body_events_of_kind, namespace_body_events_within_levels}
+use Rattle.symbols_table.specs.TreeEvents.{namespace_body_events, namespace_events, export_decl_events, non_namespace_item_events, namespace_events_or}
+use Rattle.symbols_table.specs.TreeEvents.{item_events, item_events_within_levels, item_list_events_within_levels, module_scope, program_node, program_decl}
+use Rattle.symbols_table.specs.TreeEvents.{tree_events}
 use Rattle.symbols_table.proofs.CountsParts.{node_at, kinds}
 
 -- The declaration of an event, or its `export *`, is of the tree.
@@ -205,8 +205,8 @@ module _ (tree : Tree) where
           (λ found local_name_bytes holder start. in_tree_one (member holder (definition_of_node found.0 (range_or_empty (node_at tree m))) found.1)
           local_name_bytes)
 
-  in_tree_members : (node : TreeNode) → IsInTree tree (events_of_each (member_events_at tree) (member_nodes node))
-  in_tree_members node = in_tree_each (member_events_at tree) (member_nodes node) in_tree_member
+  in_tree_members : (node : TreeNode) → IsInTree tree (events_of_each (member_events_at tree) (class_or_interface_member_numbers node))
+  in_tree_members node = in_tree_each (member_events_at tree) (class_or_interface_member_numbers node) in_tree_member
 
   -- ---- variables
 
@@ -218,7 +218,8 @@ module _ (tree : Tree) where
 
   in_tree_variables : (scope : Scope) (exported : Option TreeNode) (is_using : Bool) (k : ℕ) → IfSome exported (IsTreeNode tree) → IsInside k
       → IsInTree tree (variable_statement_events (record { scope = scope; exported = exported; is_using = is_using; decl = node_at tree k }))
-  in_tree_variables scope exported is_using k is inside = in_tree_each (declarator_events_at vars) (child_list_in_field (node_at tree k) decls_of) declarator
+  in_tree_variables scope exported is_using k is inside = in_tree_each (declarator_events_at vars) (child_list_in_field (node_at tree k) decl_children_of)
+      declarator
     where
       vars : VariableStatement
       vars = record { scope = scope; exported = exported; is_using = is_using; decl = node_at tree k }
@@ -232,7 +233,7 @@ module _ (tree : Tree) where
 
       declarator : (n : ℕ) → IsInTree tree (declarator_events_at vars n)
       declarator n = in_tree_node (Some n) (declarator_events vars) (λ m at.
-          in_tree_node (option_and_then name_of (kinds tree m)) (λ (pattern : TreeNode). events_of_each (binding_events_at vars (node_at tree m))
+          in_tree_node (option_and_then name_child_of (kinds tree m)) (λ (pattern : TreeNode). events_of_each (binding_events_at vars (node_at tree m))
           (pattern_bindings tree pattern.number)) (λ p here. in_tree_each (binding_events_at vars (node_at tree m)) (pattern_bindings tree p) (binding m at)))
 
   -- ---- declarations with an identifier
@@ -256,14 +257,14 @@ module _ (tree : Tree) where
       in_tree_on (declared_name (node_at tree n)) _ (λ (id : Id) at.
       in_tree_declared (is_exported scope exported) (id_view id)
       (definition_of_node (maybe_exported_node exported form) (export_or_decl_range exported (node_at tree n)))
-      (events_of_each (member_events_at tree) (member_nodes (node_at tree n))) (in_tree_form exported form is local_name_bytes)
+      (events_of_each (member_events_at tree) (class_or_interface_member_numbers (node_at tree n))) (in_tree_form exported form is local_name_bytes)
       (in_tree_members (node_at tree n))))
 
   -- ---- imports and exports
 
   in_tree_import : (src : List ℕ) (n : ℕ) → IsInTree tree (import_specifier_events_at src tree n)
   in_tree_import src n = in_tree_kind (Some n) (import_specifier_events src) (λ m kind inside is.
-      in_tree_on (id_of_ident_child local_of (node_at tree m)) (λ (id : Id). events_if_some (import_dep_name id kind)
+      in_tree_on (id_of_ident_child local_child_of (node_at tree m)) (λ (id : Id). events_if_some (import_dep_name id kind)
       (import_decl_events src (node_at tree m) id))
       (λ id at.
       in_tree_on (import_dep_name id kind) (import_decl_events src (node_at tree m) id)
@@ -295,7 +296,7 @@ module _ (tree : Tree) where
     where
       by : (m : ℕ) (kind : Kind) → IsInTree tree (export_specifier_events src (node_at tree m) kind)
       by m (Kind.Item (Item.ExportSpecifier _ exported)) =
-          in_tree_on (option_and_then kind_of (child_in_field (node_at tree m) orig_of))
+          in_tree_on (option_and_then kind_of (child_in_field (node_at tree m) orig_child_of))
           (export_named_specifier_events src (node_at tree m) (option_map string_bytes exported))
           (λ orig at. in_tree_specifier src (node_at tree m) (option_map string_bytes exported) orig)
       by m (Kind.Item (Item.ExportNamespace name)) =
@@ -311,7 +312,7 @@ module _ (tree : Tree) where
   in_tree_default_decl n inside c = λ holder start.
       let names = bind_events_if (declared_name (node_at tree c)) start in
       let after = start + 1 + length names in
-      let members = events_of_each (member_events_at tree) (member_nodes (node_at tree c)) start after in
+      let members = events_of_each (member_events_at tree) (class_or_interface_member_numbers (node_at tree c)) start after in
       in_tree_cons (default holder (definition_of_node (export_default_decl (node_at tree n)) (range_or_empty (node_at tree n)))) (names ++ members)
       (one_node n inside)
       (in_tree_append names members (in_tree_binds (declared_name (node_at tree c)) start) (in_tree_members (node_at tree c) start after))
@@ -323,7 +324,7 @@ module _ (tree : Tree) where
   in_tree_default_expr n inside expr (Kind.Expr (Expr.Ident _)) = no_nodes
   in_tree_default_expr n inside expr _ = one_node n inside
 
-  in_tree_assignment : (expr : TreeNode) (kind : Kind) → IsInTree tree (export_assignment_events expr kind)
+  in_tree_assignment : (expr : TreeNode) (kind : Kind) → IsInTree tree (export_assignment_of_ident_events expr kind)
   in_tree_assignment expr (Kind.Expr (Expr.Ident id)) = in_tree_default _ no_nodes
   in_tree_assignment expr _ = in_tree_none
 
@@ -340,7 +341,7 @@ module _ (tree : Tree) where
   in_tree_import_equals : (node : TreeNode) (is_export : Bool) (entity : Option ℕ) (external : Option (String Global))
       → IsInTree tree (import_equals_events node is_export entity external)
   in_tree_import_equals node is_export entity external =
-      in_tree_on (id_of_ident_child id_of node) _ (λ (id : Id) at.
+      in_tree_on (id_of_ident_child id_child_of node) _ (λ (id : Id) at.
       in_tree_if (AreNodesOf tree) (import_equals_decl_kind node entity external) (import_equals_alias_events node is_export id)
       (alias_in_tree node entity external)
       (λ (kind : DeclKindView) local_name_bytes holder start.
@@ -360,24 +361,24 @@ module _ (tree : Tree) where
   in_tree_module n inside (Kind.Item (Item.ExportNamed specifiers src)) is =
       in_tree_each (export_specifier_events_at (option_map string_bytes src) tree) specifiers.items (in_tree_export_at (option_map string_bytes src))
   in_tree_module n inside (Kind.Item (Item.ExportDefaultDecl decl)) is =
-      in_tree_node (option_and_then decl_of (kinds tree n)) (default_decl_events (node_at tree n)) (λ c here. in_tree_default_decl n inside c)
+      in_tree_node (option_and_then decl_child_of (kinds tree n)) (default_decl_events (node_at tree n)) (λ c here. in_tree_default_decl n inside c)
   in_tree_module n inside (Kind.Item (Item.ExportDefaultExpr expr)) is =
-      in_tree_kind (option_and_then expr_of (kinds tree n))
+      in_tree_kind (option_and_then expr_child_of (kinds tree n))
       (λ (expr : TreeNode) (kind : Kind). default_export_events (default_expr_decl (node_at tree n) expr kind))
       (λ c kind here at. in_tree_default (default_expr_decl (node_at tree n) (node_at tree c) kind) (in_tree_default_expr n inside (node_at tree c) kind))
   in_tree_module n inside (Kind.Item (Item.TsExportAssignment expr)) is =
-      in_tree_kind (option_and_then expr_of (kinds tree n)) export_assignment_events (λ c kind here at. in_tree_assignment (node_at tree c) kind)
+      in_tree_kind (option_and_then expr_child_of (kinds tree n)) export_assignment_of_ident_events (λ c kind here at. in_tree_assignment (node_at tree c) kind)
   in_tree_module n inside (Kind.Item (Item.TsImportEqualsDecl is_export id entity external)) is =
       in_tree_import_equals (node_at tree n) is_export entity external
-  in_tree_module n inside (Kind.Item (Item.ExprStmt expr)) is = in_tree_node (option_and_then expr_of (kinds tree n)) expando_events in_tree_expando
+  in_tree_module n inside (Kind.Item (Item.ExprStmt expr)) is = in_tree_node (option_and_then expr_child_of (kinds tree n)) expando_events in_tree_expando
   in_tree_module n inside (Kind.Item (Item.ExportAll src)) is = λ holder start. in_tree_one (star (record { number = n; specifier_text = string_bytes src }))
       (rw is refl)
   in_tree_module n inside _ is = in_tree_none
 
   in_tree_exported_item : (scope : Scope) (n : ℕ) → IsInside n
-      → IsInTree tree (events_if_some (child_in_field (node_at tree n) decl_of) (export_decl_events scope (node_at tree n)))
+      → IsInTree tree (events_if_some (child_in_field (node_at tree n) decl_child_of) (export_decl_events scope (node_at tree n)))
   in_tree_exported_item scope n inside =
-      in_tree_kind (option_and_then decl_of (kinds tree n)) (declaration_events scope (Some (node_at tree n)))
+      in_tree_kind (option_and_then decl_child_of (kinds tree n)) (declaration_events scope (Some (node_at tree n)))
       (λ c kind here at. in_tree_declaration scope (Some (node_at tree n)) c (refl, inside) here kind)
 
   in_tree_other_item : (scope : Scope) (n : ℕ) → IsInside n → (kind : Kind) → kinds tree n ≡ Some kind
@@ -390,22 +391,21 @@ module _ (tree : Tree) where
 
   module _ (block : ItemListEvents) (local_name_bytes : (scope : Scope) (items : List ℕ) → IsInTree tree (block scope items)) where
     in_tree_body : (whole : ℕ) → IsInside whole → (ambient : Bool) (levels n : ℕ)
-        → IsInTree tree (namespace_body_events_within block (node_at tree whole) ambient levels n)
-    unfolding namespace_body_events_within
+        → IsInTree tree (namespace_body_events_within_levels block (node_at tree whole) ambient levels n)
+    unfolding namespace_body_events_within_levels
     in_tree_body whole at ambient zero n = in_tree_none
     in_tree_body whole at ambient (suc levels) n =
-        in_tree_kind (Some n) (namespace_body_events_of_kind (namespace_body_events_within block (node_at tree whole) ambient levels) block (node_at tree whole)
-        ambient)
-        (λ m kind inside is. by m kind (in_tree_body whole at ambient levels))
+        in_tree_kind (Some n) (namespace_body_events_of_kind (namespace_body_events_within_levels block (node_at tree whole) ambient levels) block
+        (node_at tree whole) ambient) (λ m kind inside is. by m kind (in_tree_body whole at ambient levels))
       where
         inner : ℕ → EventsByHolderAndStart
-        inner = namespace_body_events_within block (node_at tree whole) ambient levels
+        inner = namespace_body_events_within_levels block (node_at tree whole) ambient levels
 
         by : (m : ℕ) (kind : Kind) → ((k : ℕ) → IsInTree tree (inner k))
             → IsInTree tree (namespace_body_events_of_kind inner block (node_at tree whole) ambient (node_at tree m) kind)
         by m (Kind.Decl (Decl.TsModuleBlock items)) rest = local_name_bytes (namespace_scope ambient) items.items
         by m (Kind.Decl (Decl.TsNamespaceDecl id body)) rest =
-            in_tree_on (id_of_ident_child id_of (node_at tree m)) (namespace_name_part_events (node_at tree whole) (node_at tree m) (inner body))
+            in_tree_on (id_of_ident_child id_child_of (node_at tree m)) (namespace_name_part_events (node_at tree whole) (node_at tree m) (inner body))
             (λ (id : Id) found holder start.
             let last = inner body start (start + 3) in
             in_tree_cons (declare holder (id_view id) (definition_of_node (ts_namespace (node_at tree whole)) (range_or_empty (node_at tree m))))
@@ -422,12 +422,12 @@ module _ (tree : Tree) where
     in_tree_namespace scope exported n is inside =
         in_tree_on (kinds tree n) (namespace_events block scope (record { exported = exported; decl = node_at tree n })) (λ kind found.
         let ambient = scope.ambient || is_ambient_namespace kind in
-        in_tree_on (id_of_ident_child id_of (node_at tree n)) _ (λ (id : Id) at.
+        in_tree_on (id_of_ident_child id_child_of (node_at tree n)) _ (λ (id : Id) at.
         in_tree_declared (is_exported scope exported) (id_view id) (definition_of_node (maybe_exported_node exported (exported_ts_module (node_at tree n)))
         (export_or_decl_range exported (node_at tree n)))
-        (events_if_some (child_in_field (node_at tree n) body_node_of) (namespace_body_events block (node_at tree n) ambient))
+        (events_if_some (child_in_field (node_at tree n) body_child_of) (namespace_body_events block (node_at tree n) ambient))
         (in_tree_form exported (exported_ts_module (node_at tree n)) is (one_node n inside))
-        (in_tree_node (option_and_then body_node_of (kinds tree n)) (namespace_body_events block (node_at tree n) ambient)
+        (in_tree_node (option_and_then body_child_of (kinds tree n)) (namespace_body_events block (node_at tree n) ambient)
         (λ c here. in_tree_body n inside ambient (length tree.nodes.items) c))))
 
     in_tree_found : (scope : Scope) (exported : Option TreeNode) (n : ℕ) → IfSome exported (IsTreeNode tree) → IsInside n
@@ -460,23 +460,22 @@ module _ (tree : Tree) where
         by : (kind : Kind) → IsInTree tree (non_namespace_item_events scope (node_at tree n) kind)
             → IsInTree tree
             (namespace_events_or (namespace_of (node_at tree n) kind) (namespace_walk scope) (non_namespace_item_events scope (node_at tree n) kind))
-        by (Kind.Item (Item.ExportDecl decl)) rest = in_tree_exported_found scope n inside (option_and_then decl_of (kinds tree n))
+        by (Kind.Item (Item.ExportDecl decl)) rest = in_tree_exported_found scope n inside (option_and_then decl_child_of (kinds tree n))
             (non_namespace_item_events scope (node_at tree n) (Kind.Item (Item.ExportDecl decl))) rest
         by kind rest = in_tree_found scope None n tt inside kind (non_namespace_item_events scope (node_at tree n) kind) rest
 
-  in_tree_items : (levels : ℕ) (scope : Scope) (n : ℕ) → IsInTree tree (item_events_within tree levels scope n)
-  unfolding item_events_within
+  in_tree_items : (levels : ℕ) (scope : Scope) (n : ℕ) → IsInTree tree (item_events_within_levels tree levels scope n)
+  unfolding item_events_within_levels
   in_tree_items zero scope n = in_tree_none
   in_tree_items (suc levels) scope n =
-      in_tree_kind (Some n) (item_events (item_list_events_within tree levels) scope) (λ m kind inside is.
-      in_tree_item (item_list_events_within tree levels) (λ inner items. in_tree_each (item_events_within tree levels inner) items (in_tree_items levels inner))
-      scope m inside
-      kind is)
+      in_tree_kind (Some n) (item_events (item_list_events_within_levels tree levels) scope) (λ m kind inside is.
+      in_tree_item (item_list_events_within_levels tree levels) (λ inner items. in_tree_each (item_events_within_levels tree levels inner) items
+      (in_tree_items levels inner)) scope m inside kind is)
 
   -- All events of a tree concern the tree.
   pub in_tree_tree : IsInside 0 → AreInTree tree (tree_events tree)
   in_tree_tree first =
-      let items = child_list_in_field (program_node tree) body_of in
-      let item : ℕ → EventsByHolderAndStart = item_events_within tree (length tree.nodes.items) (module_scope tree) in
+      let items = child_list_in_field (program_node tree) body_children_of in
+      let item : ℕ → EventsByHolderAndStart = item_events_within_levels tree (length tree.nodes.items) (module_scope tree) in
       in_tree_cons (begins (program_decl tree)) (events_of_each item items 0 1) (one_node 0 first)
       (in_tree_each item items (in_tree_items (length tree.nodes.items) (module_scope tree)) 0 1)

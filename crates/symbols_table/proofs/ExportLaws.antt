@@ -8,8 +8,8 @@ use Rattle.std.proofs.lemmas.Bool.{false≢true}
 use Rattle.std.proofs.lemmas.Slice.Eq.{bytes_eq-Decides}
 use Rattle.indexmap.specs.IndexMap.{insert_entry, insert_all}
 use Rattle.symbols_ast.specs.declared.ids.SymbolId.{SymbolId}
-use Rattle.symbols_table.specs.Changes.{Change, some_if, export_insertions_after, append_name_if_absent, exported_names_of_entries, symbol_if_export_named}
-use Rattle.symbols_table.specs.Changes.{AreExportsOfInsertions, exports_after}
+use Rattle.symbols_table.specs.Changes.{Change, some_if, export_insertions_after_changes, append_name_if_absent, exported_names_of_entries}
+use Rattle.symbols_table.specs.Changes.{symbol_if_export_named, AreExportsOfInsertions, exports_after_changes}
 use Rattle.symbols_table.proofs.Views.{eq-sym, lookup-insert}
 
 -- ---- positions
@@ -84,10 +84,10 @@ no_names : IsDistinct bytes_eq []
 unfolding IsDistinct
 no_names = tt
 
-pub are_exports : (changes : List Change) (s : SymbolId) → AreExportsOfInsertions (export_insertions_after changes s) (exports_after changes s)
-unfolding exports_after
+pub are_exports : (changes : List Change) (s : SymbolId) → AreExportsOfInsertions (export_insertions_after_changes changes s) (exports_after_changes changes s)
+unfolding exports_after_changes
 are_exports changes s =
-    let settings = export_insertions_after changes s in
+    let settings = export_insertions_after_changes changes s in
     let names_are_in_insertion_order = indices_after [] settings in
     record {
       names_are_in_insertion_order = names_are_in_insertion_order;

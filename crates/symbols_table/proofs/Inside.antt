@@ -9,10 +9,8 @@ use Rattle.indexmap.specs.IndexMap.{insert_entry, insert_all}
 use Rattle.symbols_ast.specs.declared.ids.SymbolId.{SymbolId}
 use Rattle.symbols_ast.specs.Ids.{IdView, is_same_id}
 use Rattle.symbols_table.specs.Changes.{Change, adds_symbol, adds_decl, exports, adds_child, adds_member, maps, re_exports_all, some_if, is_same_symbol_id}
-use Rattle.symbols_table.specs.Changes.{append_if_absent, child_added_by}
-use Rattle.symbols_table.specs.Changes.{member_added_by, export_inserted_by, symbol_bound_to_ident_by, exports_after, exported_symbol, children_after}
-use Rattle.symbols_table.specs.Changes.{members_after}
-use Rattle.symbols_table.specs.Changes.{symbol_of_ident_after_changes}
+use Rattle.symbols_table.specs.Changes.{append_if_absent, child_added_by, member_added_by, export_inserted_by, symbol_bound_to_ident_by, exports_after_changes}
+use Rattle.symbols_table.specs.Changes.{exported_symbol_after_changes, children_after_changes, members_after_changes, symbol_of_ident_after_changes}
 use Rattle.symbols_table.specs.inner.Tables.{NamesSymbolsBelow, DoesNotBindOrExportModuleSymbol}
 
 pub All-head : {X : Type 0} (P : X → Type 0) (x : X) (xs : List X) → All P (x ∷ xs) → P x
@@ -113,13 +111,15 @@ member_fits count s (adds_member t x) h = by (is_same_symbol_id t s)
 member_fits count s (maps _ _) h = tt
 member_fits count s (re_exports_all _) h = tt
 
-pub children_inside : (count : ℕ) (changes : List Change) (s : SymbolId) → All (NamesSymbolsBelow count) changes → All (Below count) (children_after changes s)
-unfolding children_after
+pub children_inside : (count : ℕ) (changes : List Change) (s : SymbolId) → All (NamesSymbolsBelow count) changes
+    → All (Below count) (children_after_changes changes s)
+unfolding children_after_changes
 children_inside count changes s all = firsts_inside count [] (filter_map (child_added_by s) changes) (λ k d lt. absurd (omega (arith, lt)))
     (filtered_inside count (child_added_by s) (child_fits count s) changes all)
 
-pub members_inside : (count : ℕ) (changes : List Change) (s : SymbolId) → All (NamesSymbolsBelow count) changes → All (Below count) (members_after changes s)
-unfolding members_after
+pub members_inside : (count : ℕ) (changes : List Change) (s : SymbolId) → All (NamesSymbolsBelow count) changes
+    → All (Below count) (members_after_changes changes s)
+unfolding members_after_changes
 members_inside count changes s all = firsts_inside count [] (filter_map (member_added_by s) changes) (λ k d lt. absurd (omega (arith, lt)))
     (filtered_inside count (member_added_by s) (member_fits count s) changes all)
 
@@ -171,19 +171,19 @@ module _ (F : Change → Type 0) (P : SymbolId → Type 0) (s : SymbolId) (each 
   entries_so done (x ∷ xs) before all =
       entries_so (insert_entry bytes_eq done x.0 x.1) xs (entry_so done x.0 x.1 before (All-head (ExportsSo P) x xs all)) (All-tail (ExportsSo P) x xs all)
 
-  exports_so : (changes : List Change) → All F changes → All (ExportsSo P) (exports_after changes s)
-  unfolding exports_after
+  exports_so : (changes : List Change) → All F changes → All (ExportsSo P) (exports_after_changes changes s)
+  unfolding exports_after_changes
   exports_so changes all = entries_so [] (filter_map (export_inserted_by s) changes) (λ k d lt. absurd (omega (arith, lt))) (settings_so changes all)
 
-  exported_so : (changes : List Change) (name : List ℕ) → All F changes → IfSome (exported_symbol changes s name) P
-  exported_so changes name all = All-lookup P (λ key. bytes_eq name key) (exports_after changes s) (exports_so changes all)
+  exported_so : (changes : List Change) (name : List ℕ) → All F changes → IfSome (exported_symbol_after_changes changes s name) P
+  exported_so changes name all = All-lookup P (λ key. bytes_eq name key) (exports_after_changes changes s) (exports_so changes all)
 
 pub exports_inside : (count : ℕ) (changes : List Change) (s : SymbolId) → All (NamesSymbolsBelow count) changes
-    → All (ExportsBelow count) (exports_after changes s)
+    → All (ExportsBelow count) (exports_after_changes changes s)
 exports_inside count changes s all = exports_so (NamesSymbolsBelow count) (Below count) s (setting_fits count s) changes all
 
 pub exported_inside : (count : ℕ) (changes : List Change) (s : SymbolId) (name : List ℕ) → All (NamesSymbolsBelow count) changes
-    → IfSome (exported_symbol changes s name) (Below count)
+    → IfSome (exported_symbol_after_changes changes s name) (Below count)
 exported_inside count changes s name all = exported_so (NamesSymbolsBelow count) (Below count) s (setting_fits count s) changes name all
 
 -- The symbol is not the module's own.
@@ -220,5 +220,5 @@ pub mapped_apart : (changes : List Change) (id : IdView) → All DoesNotBindOrEx
 mapped_apart changes id all = mapped_so DoesNotBindOrExportModuleSymbol Inner id (mapping_apart id) changes all
 
 pub exported_apart : (changes : List Change) (s : SymbolId) (name : List ℕ) → All DoesNotBindOrExportModuleSymbol changes
-    → IfSome (exported_symbol changes s name) Inner
+    → IfSome (exported_symbol_after_changes changes s name) Inner
 exported_apart changes s name all = exported_so DoesNotBindOrExportModuleSymbol Inner s (setting_apart s) changes name all

@@ -16,7 +16,7 @@ use Rattle.symbols_ast.specs.declared.tree.kinds.Expr.TheVariants as Expr
 use Rattle.symbols_ast.specs.declared.ids.SymbolId.{SymbolId}
 use Rattle.symbols_ast.specs.Nodes.{children, child_numbers}
 use Rattle.symbols_ast.specs.NodeRefs.{TreeNode, kind_of, node_in, child_in_field, child_list_in_field}
-use Rattle.symbols_ast.specs.ChildFields.{body_of, body_node_of, decl_of, id_of}
+use Rattle.symbols_ast.specs.ChildFields.{body_children_of, body_child_of, decl_child_of, id_child_of}
 use Rattle.symbols_ast.specs.WellFormed.{IsWellFormedTree}
 use Rattle.symbols_ast.specs.Ids.{IdView, id_view}
 use Rattle.symbols_nodes.specs.NodeViews.{ts_namespace, exported_ts_module}
@@ -25,16 +25,16 @@ use Rattle.symbols_table.specs.declared.builder.table.ModuleBuilder.{ModuleBuild
 use Rattle.symbols_table.specs.declared.builder.table.BuildFault.{BuildFault}
 use Rattle.symbols_table.specs.declared.builder.table.BuildFault.TheVariants.{TooManySymbols}
 use Rattle.symbols_table.specs.DeclViews.{Declaration, definition_of_node}
-use Rattle.symbols_table.specs.Changes.{Change, exports, adds_child, parents_after}
+use Rattle.symbols_table.specs.Changes.{Change, exports, adds_child, parents_after_changes}
 use Rattle.symbols_table.specs.Events.{DeclarationEvent, EventEffect, effect_of_changes, declare, export, child, declare_effect, effect_of_event}
 use Rattle.symbols_table.specs.Events.{changes_of_effects, symbol_of_event_at, effects_after_events}
 use Rattle.symbols_table.specs.EventsByHolderAndStart.{EventsByHolderAndStart, no_events_by_holder_and_start, events_if_some, range_or_empty, id_of_ident_child}
 use Rattle.symbols_table.specs.DeclarationEvents.{maybe_exported_node, export_or_decl_range, is_exported, child_and_export_events, declare_and_add_events}
 use Rattle.symbols_table.specs.TreeEvents.{is_ambient_namespace, namespace_body_events, Namespace, as_namespace, exported_namespace, namespace_of}
 use Rattle.symbols_table.specs.TreeEvents.{ItemListEvents, namespace_name_part_events, namespace_body_events_of_kind}
-use Rattle.symbols_table.specs.TreeEvents.{namespace_body_events_within, namespace_events, non_namespace_item_events, namespace_events_or, item_events}
-use Rattle.symbols_table.specs.TreeEvents.{item_events_within, item_list_events_within, namespace_part_decl_events}
-use Rattle.symbols_table.specs.inner.Levels.{AreGreaterNodeNumbers, ReturnsSymbolOfFirstEvent}
+use Rattle.symbols_table.specs.TreeEvents.{namespace_body_events_within_levels, namespace_events, non_namespace_item_events, namespace_events_or, item_events}
+use Rattle.symbols_table.specs.TreeEvents.{item_events_within_levels, item_list_events_within_levels, namespace_part_decl_events}
+use Rattle.symbols_table.specs.inner.Levels.{AreGreaterNodeNumbers, AppliesEventsAndReturnsSymbolOfFirst}
 use Rattle.symbols_table.specs.inner.Tables.{HasAppliedChanges, AppliesEffects, AppliesEventsUnderHolder}
 use Rattle.symbols_table.proofs.Rows.{effects_after_events-step, effects_after_events-nil, effects_after_events-append, length-effects_after_events}
 use Rattle.symbols_table.proofs.Rows.{symbol_at_retained, symbol_of_event_at-push, symbol_at_after, parents_after_grow}
@@ -89,9 +89,9 @@ part_read whole node id decl rows h holder s b1 b2 b3 is at read exported added 
 pub part_fault : (r : Result SymbolId BuildFault) (whole node : TreeNode) (id : Id) (decl : Declaration) (rows : List EventEffect) (h : ℕ) (holder : SymbolId)
     (limit : ℕ) (new : ModuleBuilder) (fault : BuildFault) → decl ≡ definition_of_node (ts_namespace whole) (range_or_empty node)
     → symbol_of_event_at rows h ≡ Some holder
-    → IsErrAnd r (λ e. e ≡ fault) → (fault ≡ TooManySymbols → limit < length (parents_after (changes_of_effects rows
+    → IsErrAnd r (λ e. e ≡ fault) → (fault ≡ TooManySymbols → limit < length (parents_after_changes (changes_of_effects rows
     ++ (declare_effect (changes_of_effects rows) holder (id_view id) decl).changes)))
-    → ReturnsSymbolOfFirstEvent r limit new rows (namespace_part_decl_events whole node id h (length rows))
+    → AppliesEventsAndReturnsSymbolOfFirst r limit new rows (namespace_part_decl_events whole node id h (length rows))
 part_fault (Ok x) whole node id decl rows h holder limit new fault is at same read = absurd same
 part_fault (Err e) whole node id decl rows h holder limit new fault is at same read =
     let first : effect_of_event (changes_of_effects rows) (symbol_of_event_at rows) (declare h (id_view id) decl) ≡ declare_effect (changes_of_effects rows)
@@ -100,7 +100,7 @@ part_fault (Err e) whole node id decl rows h holder limit new fault is at same r
     let all = err_all r limit new rows (declare h (id_view id) decl) (declare_effect (changes_of_effects rows) holder (id_view id) decl)
     (export h (id_view id).name (length rows) ∷ child h (length rows) ∷ []) fault first same read in
     subst (λ (d : Declaration). e ≡ TooManySymbols
-    → limit < length (parents_after (changes_of_effects (effects_after_events rows (part_declares id d h (length rows)))))) is all
+    → limit < length (parents_after_changes (changes_of_effects (effects_after_events rows (part_declares id d h (length rows)))))) is all
 
 -- A call that goes on inside the part applies the part's events.
 pub later_read : {A : Type 0} (r : Result A BuildFault) (whole node : TreeNode) (id : Id) (inner : EventsByHolderAndStart) (rows : List EventEffect) (h : ℕ)
@@ -120,14 +120,14 @@ later_read r whole node id inner rows h s limit b1 b2 same read reads =
 pub later_fault : {A : Type 0} (r : Result A BuildFault) (whole node : TreeNode) (id : Id) (inner : EventsByHolderAndStart) (rows : List
     EventEffect) (h : ℕ) (limit : ℕ) (new : ModuleBuilder) (fault : BuildFault) → IsErrAnd r (λ e. e ≡ fault)
     → (fault ≡ TooManySymbols
-    → limit < length (parents_after (changes_of_effects (effects_after_events rows (namespace_part_decl_events whole node id h (length rows))))))
+    → limit < length (parents_after_changes (changes_of_effects (effects_after_events rows (namespace_part_decl_events whole node id h (length rows))))))
     → AppliesEffects r limit new (effects_after_events rows (namespace_name_part_events whole node inner id h (length rows)))
 later_fault (Ok x) whole node id inner rows h limit new fault same read = absurd same
 later_fault (Err e) whole node id inner rows h limit new fault same read = λ many.
     let first = namespace_part_decl_events whole node id h (length rows) in
     let rest = inner (length rows) (length rows + 3) in
-    let here : limit < length (parents_after (changes_of_effects (effects_after_events rows first))) = read (sym same ∙ many) in
-    let there : limit < length (parents_after (changes_of_effects (effects_after_events rows (first ++ rest)))) =
+    let here : limit < length (parents_after_changes (changes_of_effects (effects_after_events rows first))) = read (sym same ∙ many) in
+    let there : limit < length (parents_after_changes (changes_of_effects (effects_after_events rows (first ++ rest)))) =
     rw (effects_after_events-append rows first rest) (omega (arith, here, parents_after_grow (effects_after_events rows first) rest)) in
     there
 
@@ -156,7 +156,8 @@ declared_split test id decl inner rows h holder at =
 pub declared_fault : {A : Type 0} (r : Result A BuildFault) (test : Bool) (id : IdView) (decl : Declaration) (inner : EventsByHolderAndStart) (rows : List
     EventEffect) (h : ℕ) (holder : SymbolId) (limit : ℕ) (new : ModuleBuilder) (fault : BuildFault) → symbol_of_event_at rows h ≡ Some holder
     → IsErrAnd r (λ e. e ≡ fault)
-    → (fault ≡ TooManySymbols → limit < length (parents_after (changes_of_effects rows ++ (declare_effect (changes_of_effects rows) holder id decl).changes)))
+    → (fault ≡ TooManySymbols → limit < length (parents_after_changes
+    (changes_of_effects rows ++ (declare_effect (changes_of_effects rows) holder id decl).changes)))
     → AppliesEffects r limit new (effects_after_events rows (declare_and_add_events test id decl inner h (length rows)))
 declared_fault r test id decl inner rows h holder limit new fault at same read =
     let first : effect_of_event (changes_of_effects rows) (symbol_of_event_at rows) (declare h id decl) ≡ declare_effect (changes_of_effects rows) holder id
@@ -178,7 +179,7 @@ declared_inner_fault A (Err e) test id decl inner rows h holder s limit b1 b2 ne
     let rows1 = declared_rows rows holder id decl in
     let under = effects_after_events rows1 (inner (length rows) (length rows1)) in
     let of : symbol_of_event_at rows1 (length rows) ≡ Some s = symbol_of_event_at-push rows row ∙ read.0 in
-    let here : b1.setting.limit < length (parents_after (changes_of_effects under)) =
+    let here : b1.setting.limit < length (parents_after_changes (changes_of_effects under)) =
     reads rows1 (length rows) (one_read b1 rows row read.1) of (sym same ∙ many) in
     rw (declared_split test id decl inner rows h holder at)
     (omega (arith, here, setting, parents_after_grow under (child_and_export_events test h id.name (length rows))))
@@ -248,7 +249,7 @@ optional_has : (n : ℕ) (o : Option ℕ) → o ≡ Some n → Contains (option_
 optional_has n None e = absurd (let f : ⊥ = cc in f)
 optional_has n (Some m) e = one_has n m e
 
-pub bodies_are_children : (kind : Kind) (n : ℕ) → body_node_of kind ≡ Some n → Contains (child_numbers kind) n
+pub bodies_are_children : (kind : Kind) (n : ℕ) → body_child_of kind ≡ Some n → Contains (child_numbers kind) n
 bodies_are_children (Kind.Decl (Decl.Function type_params params return_type body)) n e =
     Contains-append_right (option_to_list type_params) (params.items ++ (option_to_list return_type ++ (option_to_list body ++ []))) n
     (Contains-append_right params.items (option_to_list return_type ++ (option_to_list body ++ [])) n
@@ -263,12 +264,12 @@ bodies_are_children (Kind.Expr (Expr.Arrow type_params params return_type is_blo
     (option_to_list return_type ++ (body ∷ [])) n (Contains-append_right (option_to_list return_type) (body ∷ []) n (one_has n body e)))
 bodies_are_children kind n e = absurd (let f : ⊥ = cc in f)
 
-pub decls_are_children : (kind : Kind) (n : ℕ) → decl_of kind ≡ Some n → Contains (child_numbers kind) n
+pub decls_are_children : (kind : Kind) (n : ℕ) → decl_child_of kind ≡ Some n → Contains (child_numbers kind) n
 decls_are_children (Kind.Item (Item.ExportDecl decl)) n e = one_has n decl e
 decls_are_children (Kind.Item (Item.ExportDefaultDecl decl)) n e = one_has n decl e
 decls_are_children kind n e = absurd (let f : ⊥ = cc in f)
 
-pub items_are_children : (kind : Kind) (n : ℕ) → Contains (body_of kind) n → Contains (child_numbers kind) n
+pub items_are_children : (kind : Kind) (n : ℕ) → Contains (body_children_of kind) n → Contains (child_numbers kind) n
 items_are_children (Kind.Item (Item.Program body)) n has = Contains-append_left body.items [] n has
 items_are_children (Kind.Decl (Decl.Class type_params super_class super_type_params implements body)) n has =
     let rest1 = body.items ++ [] in
@@ -294,19 +295,19 @@ rest_greater node id body formed inside is =
 -- The items of a body have greater numbers than the body.
 pub items_greater : (node : TreeNode) (kind : Kind) → IsWellFormedTree node.tree.nodes.items → node.number < length node.tree.nodes.items
     → kind_of node ≡ Some kind
-    → AreGreaterNodeNumbers node.tree.nodes.items node.number (body_of kind)
+    → AreGreaterNodeNumbers node.tree.nodes.items node.number (body_children_of kind)
 unfolding children
 items_greater node kind formed inside is = λ k d below.
-    let n = get_or (body_of kind) k d in
-    let has : Contains (body_of kind) n = (k, below, get_or_default (body_of kind) k n d below) in
+    let n = get_or (body_children_of kind) k d in
+    let has : Contains (body_children_of kind) n = (k, below, get_or_default (body_children_of kind) k n d below) in
     let here : Contains (children node.tree.nodes.items node.number) n = rw is (items_are_children kind n has) in
     formed.ordered node.number n inside here
 
 pub list_greater : (node : TreeNode) → IsWellFormedTree node.tree.nodes.items → node.number < length node.tree.nodes.items
-    → AreGreaterNodeNumbers node.tree.nodes.items node.number (child_list_in_field node body_of)
+    → AreGreaterNodeNumbers node.tree.nodes.items node.number (child_list_in_field node body_children_of)
 list_greater node formed inside = of_kind (kind_of node) refl
   where
-    of_kind : (kinds : Option Kind) → kind_of node ≡ kinds → AreGreaterNodeNumbers node.tree.nodes.items node.number (option_map_or body_of kinds [])
+    of_kind : (kinds : Option Kind) → kind_of node ≡ kinds → AreGreaterNodeNumbers node.tree.nodes.items node.number (option_map_or body_children_of kinds [])
     of_kind None is = λ k d below. absurd (omega (arith, below))
     of_kind (Some kind) is = items_greater node kind formed inside is
 
@@ -319,29 +320,31 @@ pub body_reads : {A : Type 0} (r : Result A BuildFault) (old new : ModuleBuilder
     (ambient : Bool) (parts
     n : ℕ) (node : TreeNode) (kind : Kind) → IsFound whole.tree n node → kind_of node ≡ Some kind → length whole.tree.nodes.items ≤ n + parts
     → ((left : ℕ) → length whole.tree.nodes.items ≤ n + suc left
-    → AppliesEventsUnderHolder r old new (namespace_body_events_of_kind (namespace_body_events_within block whole ambient left) block whole ambient
-    node kind) holder) → AppliesEventsUnderHolder r old new (namespace_body_events_within block whole ambient parts n) holder
-unfolding namespace_body_events_within
+    → AppliesEventsUnderHolder r old new (namespace_body_events_of_kind (namespace_body_events_within_levels block whole ambient left) block whole ambient
+    node kind) holder) → AppliesEventsUnderHolder r old new (namespace_body_events_within_levels block whole ambient parts n) holder
+unfolding namespace_body_events_within_levels
 body_reads r old new holder block whole ambient zero n node kind found is enough reads = absurd (omega (arith, found.inside))
 body_reads r old new holder block whole ambient (suc left) n node kind found is enough reads =
     let there : node_in whole.tree (Some n) ≡ Some node = rw (lt-ltb n (length whole.tree.nodes.items) found.inside, found.same) refl in
     λ rows h before at. on_reads r old.setting.limit new rows (node_in whole.tree (Some n)) node (λ (found : TreeNode).
-    events_if_some (kind_of found) (namespace_body_events_of_kind (namespace_body_events_within block whole ambient left) block whole ambient found)) h
+    events_if_some (kind_of found) (namespace_body_events_of_kind (namespace_body_events_within_levels block whole ambient left) block whole ambient found)) h
     (length rows) there
     (on_reads r old.setting.limit new rows (kind_of node) kind
-    (namespace_body_events_of_kind (namespace_body_events_within block whole ambient left) block whole ambient node) h (length rows) is
+    (namespace_body_events_of_kind (namespace_body_events_within_levels block whole ambient left) block whole ambient node) h (length rows) is
     (reads left enough rows h before at))
 
 pub item_reads : {A : Type 0} (r : Result A BuildFault) (old new : ModuleBuilder) (holder : SymbolId) (tree : Tree) (scope : Scope) (levels
     n : ℕ) (node : TreeNode) → IsFound tree n node → length tree.nodes.items ≤ n + levels
     → ((left : ℕ) → length tree.nodes.items ≤ n + suc left → AppliesEventsUnderHolder r old new (events_if_some (kind_of node)
-    (item_events (item_list_events_within tree left) scope node)) holder) → AppliesEventsUnderHolder r old new (item_events_within tree levels scope n) holder
-unfolding item_events_within
+    (item_events (item_list_events_within_levels tree left) scope node)) holder)
+    → AppliesEventsUnderHolder r old new (item_events_within_levels tree levels scope n) holder
+unfolding item_events_within_levels
 item_reads r old new holder tree scope zero n node found enough reads = absurd (omega (arith, found.inside))
 item_reads r old new holder tree scope (suc left) n node found enough reads =
     let there : node_in tree (Some n) ≡ Some node = rw (lt-ltb n (length tree.nodes.items) found.inside, found.same) refl in
     λ rows h before at. on_reads r old.setting.limit new rows (node_in tree (Some n)) node (λ (found : TreeNode).
-    events_if_some (kind_of found) (item_events (item_list_events_within tree left) scope found)) h (length rows) there (reads left enough rows h before at)
+    events_if_some (kind_of found) (item_events (item_list_events_within_levels tree left) scope found)) h (length rows) there
+    (reads left enough rows h before at)
 
 -- The events of an item that is no namespace are those of any other item.
 other_same : (block : ItemListEvents) (scope : Scope) (node : TreeNode) (kinds : Option Kind) → None ≡ option_and_then (namespace_of node) kinds → (h start : ℕ)
@@ -367,17 +370,18 @@ namespace_same block scope node found (Some kind) e h start = ap (λ (o : Option
 
 pub namespace_reads : {A : Type 0} (r : Result A BuildFault) (old new : ModuleBuilder) (holder : SymbolId) (tree : Tree) (left : ℕ) (scope : Scope)
     (node : TreeNode) (found : Namespace) → found.decl.tree ≡ tree → Some found ≡ option_and_then (namespace_of node) (kind_of node)
-    → AppliesEventsUnderHolder r old new (events_if_some (kind_of found.decl) (namespace_events (item_list_events_within found.decl.tree left) scope found))
-    holder
-    → AppliesEventsUnderHolder r old new (events_if_some (kind_of node) (item_events (item_list_events_within tree left) scope node)) holder
+    → AppliesEventsUnderHolder r old new (events_if_some (kind_of found.decl)
+    (namespace_events (item_list_events_within_levels found.decl.tree left) scope found)) holder
+    → AppliesEventsUnderHolder r old new (events_if_some (kind_of node) (item_events (item_list_events_within_levels tree left) scope node)) holder
 namespace_reads r old new holder tree left scope node found same e reads =
     let there =
     subst (λ (t : Tree). AppliesEventsUnderHolder r old new
-    (events_if_some (kind_of found.decl) (namespace_events (item_list_events_within t left) scope found)) holder)
+    (events_if_some (kind_of found.decl) (namespace_events (item_list_events_within_levels t left) scope found)) holder)
     same reads in
-    read_as r old new (events_if_some (kind_of found.decl) (namespace_events (item_list_events_within tree left) scope found)) holder
+    read_as r old new (events_if_some (kind_of found.decl) (namespace_events (item_list_events_within_levels tree left) scope found)) holder
     (events_if_some (kind_of node)
-    (item_events (item_list_events_within tree left) scope node)) (namespace_same (item_list_events_within tree left) scope node found (kind_of node) e) there
+    (item_events (item_list_events_within_levels tree left) scope node))
+    (namespace_same (item_list_events_within_levels tree left) scope node found (kind_of node) e) there
 
 -- A namespace declaration has the number of its item, or a greater one.
 pub record IsAtItem (node : TreeNode) (found : Namespace) : Type 0 where
@@ -397,10 +401,10 @@ exported_at node found decl (Some kind) e = other_at node decl (Some node) found
 
 child_item : (node : TreeNode) (found : Namespace) (decls : Option TreeNode) → IsWellFormedTree node.tree.nodes.items
     → node.number < length node.tree.nodes.items
-    → child_in_field node decl_of ≡ decls → Some found ≡ option_and_then (exported_namespace node) decls → IsAtItem node found
+    → child_in_field node decl_child_of ≡ decls → Some found ≡ option_and_then (exported_namespace node) decls → IsAtItem node found
 child_item node found None formed inside is e = absurd (let f : ⊥ = cc in f)
 child_item node found (Some decl) formed inside is e =
-    let child = child_found node decl decl_of formed inside decls_are_children (sym is) in
+    let child = child_found node decl decl_child_of formed inside decls_are_children (sym is) in
     let same : found.decl ≡ decl = exported_at node found decl (kind_of decl) e in
     record { same_tree = ap (λ (t : TreeNode). t.tree) same ∙ child.same_tree; from = rw same (omega (arith, child.greater)) }
 
@@ -409,7 +413,7 @@ in_tree_item node found same = record { same_tree = ap (λ (t : TreeNode). t.tre
 
 item_at : (node : TreeNode) (found : Namespace) (kind : Kind) → IsWellFormedTree node.tree.nodes.items → node.number < length node.tree.nodes.items
     → Some found ≡ namespace_of node kind → IsAtItem node found
-item_at node found (Kind.Item (Item.ExportDecl decl)) formed inside e = child_item node found (child_in_field node decl_of) formed inside refl e
+item_at node found (Kind.Item (Item.ExportDecl decl)) formed inside e = child_item node found (child_in_field node decl_child_of) formed inside refl e
 item_at node found kind formed inside e = in_tree_item node found (other_at node node None found kind e)
 
 pub namespace_at : (node : TreeNode) (found : Namespace) → IsWellFormedTree node.tree.nodes.items → node.number < length node.tree.nodes.items
@@ -427,10 +431,10 @@ pub body_stays : (b : ModuleBuilder) (holder : SymbolId) (block : ItemListEvents
     → ((left : ℕ) (rows : List EventEffect) (h : ℕ) → HasAppliedChanges b (changes_of_effects rows)
     → HasAppliedChanges b
     (changes_of_effects
-    (effects_after_events rows (namespace_body_events_of_kind (namespace_body_events_within block whole ambient left) block whole ambient node kind h
+    (effects_after_events rows (namespace_body_events_of_kind (namespace_body_events_within_levels block whole ambient left) block whole ambient node kind h
     (length rows)))))
     → (rows : List EventEffect) (h : ℕ) → HasAppliedChanges b (changes_of_effects rows) → symbol_of_event_at rows h ≡ Some holder
-    → HasAppliedChanges b (changes_of_effects (effects_after_events rows (namespace_body_events_within block whole ambient parts n h (length rows))))
+    → HasAppliedChanges b (changes_of_effects (effects_after_events rows (namespace_body_events_within_levels block whole ambient parts n h (length rows))))
 body_stays b holder block whole ambient parts n node kind found is enough stays =
     let done : Result ℕ BuildFault = Ok 0 in
     body_reads done b b holder block whole ambient parts n node kind found is enough (λ left more rows h before at. stays left rows h before)
@@ -439,7 +443,7 @@ body_stays b holder block whole ambient parts n node kind found is enough stays 
 
 abbrev pub namespace_inner : ItemListEvents → Scope → Namespace → Kind → EventsByHolderAndStart
 namespace_inner block scope namespace kind =
-    events_if_some (child_in_field namespace.decl body_node_of) (namespace_body_events block namespace.decl (scope.ambient || is_ambient_namespace kind))
+    events_if_some (child_in_field namespace.decl body_child_of) (namespace_body_events block namespace.decl (scope.ambient || is_ambient_namespace kind))
 
 abbrev pub namespace_decl : Namespace → Declaration
 namespace_decl namespace = definition_of_node (maybe_exported_node namespace.exported (exported_ts_module namespace.decl))
@@ -452,17 +456,17 @@ namespace_declared block scope namespace kind id =
 
 pub namespace_read : {A : Type 0} (r : Result A BuildFault) (limit : ℕ) (new : ModuleBuilder) (rows : List EventEffect) (h : ℕ) (block : ItemListEvents)
     (scope : Scope)
-    (namespace : Namespace) (kind : Kind) (id : Id) → kind_of namespace.decl ≡ Some kind → id_of_ident_child id_of namespace.decl ≡ Some id
+    (namespace : Namespace) (kind : Kind) (id : Id) → kind_of namespace.decl ≡ Some kind → id_of_ident_child id_child_of namespace.decl ≡ Some id
     → AppliesEffects r limit new (effects_after_events rows (namespace_declared block scope namespace kind id h (length rows)))
     → AppliesEffects r limit new (effects_after_events rows (events_if_some (kind_of namespace.decl) (namespace_events block scope namespace) h (length rows)))
 namespace_read r limit new rows h block scope namespace kind id is named reads =
     on_reads r limit new rows (kind_of namespace.decl) kind (namespace_events block scope namespace) h (length rows) is
-    (on_reads r limit new rows (id_of_ident_child id_of namespace.decl) id (namespace_declared block scope namespace kind) h (length rows) named reads)
+    (on_reads r limit new rows (id_of_ident_child id_child_of namespace.decl) id (namespace_declared block scope namespace kind) h (length rows) named reads)
 
 pub namespace_stays : (b : ModuleBuilder) (rows : List EventEffect) (h : ℕ) (block : ItemListEvents) (scope : Scope) (namespace : Namespace) (kind : Kind)
-    → kind_of namespace.decl ≡ Some kind → id_of_ident_child id_of namespace.decl ≡ None → HasAppliedChanges b (changes_of_effects rows)
+    → kind_of namespace.decl ≡ Some kind → id_of_ident_child id_child_of namespace.decl ≡ None → HasAppliedChanges b (changes_of_effects rows)
     → HasAppliedChanges b
     (changes_of_effects (effects_after_events rows (events_if_some (kind_of namespace.decl) (namespace_events block scope namespace) h (length rows))))
 namespace_stays b rows h block scope namespace kind is named before =
     on_some b rows (kind_of namespace.decl) kind (namespace_events block scope namespace) h (length rows) is
-    (on_none b rows (id_of_ident_child id_of namespace.decl) (namespace_declared block scope namespace kind) h (length rows) named before)
+    (on_none b rows (id_of_ident_child id_child_of namespace.decl) (namespace_declared block scope namespace kind) h (length rows) named before)

@@ -8,7 +8,7 @@ use Rattle.symbols_ast.specs.TreeFaults.{IsFaultlessTree}
 use Rattle.symbols_ast.specs.WellFormed.{IsWellFormedTree}
 use Rattle.symbols_table.specs.declared.decl.symbol.Symbol.{Symbol}
 use Rattle.symbols_table.specs.declared.builder.table.ModuleBuilder.{ModuleBuilder}
-use Rattle.symbols_table.specs.Changes.{Change, decls_after, symbol_of_ident_after_changes}
+use Rattle.symbols_table.specs.Changes.{Change, decls_after_changes, symbol_of_ident_after_changes}
 use Rattle.symbols_table.specs.Symbols.{symbol_parent, symbol_decls}
 use Rattle.symbols_table.specs.inner.Symbols.{IsSymbolOfChanges}
 use Rattle.symbols_table.specs.ModuleViews.{identifier_bindings_view, export_star_view}
@@ -62,7 +62,7 @@ are_names b changes is = λ id s at.
 -- The invariants of a module that is built from a tree.
 module _ (tree : Tree) (b : ModuleBuilder) (is : HasAppliedChanges b (table_changes_from_tree tree)) where
   borrowed_symbol : (s : SymbolId) (symbol : Symbol) → slice_get b.symbols.items s.0 ≡ Some symbol
-      → symbol_decls symbol ≡ decls_after (table_changes_from_tree tree) s
+      → symbol_decls symbol ≡ decls_after_changes (table_changes_from_tree tree) s
   borrowed_symbol s symbol at = (symbol_of b (table_changes_from_tree tree) s symbol is at).decls
 
   of_tree : 0 < length tree.nodes.items → All (IsChangeOf tree) (table_changes_from_tree tree)

@@ -11,7 +11,7 @@ use Rattle.symbols_ast.specs.declared.tree.kinds.Item.{Item}
 use Rattle.symbols_ast.specs.declared.ids.SymbolId.{SymbolId}
 use Rattle.symbols_ast.specs.declared.tree.arena.SourceRange.{SourceRange}
 use Rattle.symbols_ast.specs.NodeRefs.{TreeNode, kind_of, range_of, node_in}
-use Rattle.symbols_ast.specs.ChildFields.{local_of, id_of}
+use Rattle.symbols_ast.specs.ChildFields.{local_child_of, id_child_of}
 use Rattle.symbols_ast.specs.Ids.{id_view, ident_id}
 use Rattle.symbols_nodes.specs.Expando.{Expando, expando_of_assignment}
 use Rattle.symbols_nodes.specs.NodeViews.{expando_property, export_default_decl}
@@ -19,11 +19,11 @@ use Rattle.symbols_table.specs.declared.builder.table.ModuleBuilder.{ModuleBuild
 use Rattle.symbols_table.specs.declared.builder.table.BuildFault.{BuildFault}
 use Rattle.symbols_table.specs.declared.builder.table.BuildFault.TheVariants.{OutOfMemory, TooManySymbols}
 use Rattle.symbols_table.specs.DeclViews.{Declaration, FileDepNameView, DeclKindView, declaration_of_kind, definition_of_node, file_ref}
-use Rattle.symbols_table.specs.Changes.{adds_symbol, adds_decl, maps, parents_after}
+use Rattle.symbols_table.specs.Changes.{adds_symbol, adds_decl, maps, parents_after_changes}
 use Rattle.symbols_table.specs.Events.{DeclarationEvent, EventEffect, declare, declare_alias, default, expando, binds}
 use Rattle.symbols_table.specs.Events.{effect_yielding_symbol, new_symbol_effect, effect_of_event, changes_of_effects, symbol_of_event_at, effects_after_events}
 use Rattle.symbols_table.specs.EventsByHolderAndStart.{EventsByHolderAndStart, events_if_some, events_of_each, range_or_empty, id_of_ident_child}
-use Rattle.symbols_table.specs.MemberEvents.{member_events_at, member_nodes}
+use Rattle.symbols_table.specs.MemberEvents.{member_events_at, class_or_interface_member_numbers}
 use Rattle.symbols_table.specs.DeclarationEvents.{declared_name, export_event_if}
 use Rattle.symbols_table.specs.ModuleEvents.{import_dep_name, import_decl_events, import_specifier_events, import_specifier_events_at, bind_events_if}
 use Rattle.symbols_table.specs.ModuleEvents.{default_decl_events}
@@ -51,7 +51,7 @@ abbrev pub fresh_row : List EventEffect → SymbolId → Declaration → EventEf
 fresh_row rows holder decl = new_symbol_effect (changes_of_effects rows) (Some holder) decl (λ _. [])
 
 pub fresh_read : (b : ModuleBuilder) (rows : List EventEffect) (holder : SymbolId) (decl : Declaration) (s : SymbolId)
-    → s.0 ≡ length (parents_after (changes_of_effects rows))
+    → s.0 ≡ length (parents_after_changes (changes_of_effects rows))
     → HasAppliedChanges b ((changes_of_effects rows ++ adds_symbol (Some holder) ∷ []) ++ adds_decl s decl ∷ [])
     → (symbol_of_event_at (rows ++ fresh_row rows holder decl ∷ []) (length rows) ≡ Some s)
     × HasAppliedChanges b (changes_of_effects (rows ++ fresh_row rows holder decl ∷ []))
@@ -71,7 +71,7 @@ event_as b rows events event row e reads is = rw e (event_read b rows event row 
 pub err_as : {A : Type 0} (r : Result A BuildFault) (limit : ℕ) (new : ModuleBuilder) (rows : List EventEffect) (events : List
     DeclarationEvent) (event : DeclarationEvent) (row : EventEffect) (more : List DeclarationEvent) (fault : BuildFault) → events ≡ event ∷ more
     → effect_of_event (changes_of_effects rows) (symbol_of_event_at rows) event ≡ row → IsErrAnd r (λ e. e ≡ fault)
-    → (fault ≡ TooManySymbols → limit < length (parents_after (changes_of_effects rows ++ row.changes)))
+    → (fault ≡ TooManySymbols → limit < length (parents_after_changes (changes_of_effects rows ++ row.changes)))
     → AppliesEffects r limit new (effects_after_events rows events)
 err_as r limit new rows events event row more fault e reads h full = rw e (err_all r limit new rows event row more fault reads h full)
 
@@ -105,18 +105,20 @@ occurs node range e = rw e refl
 
 -- ---- imports
 
-pub import_unnamed : (src : List ℕ) (node : TreeNode) (h start : ℕ) → id_of_ident_child local_of node ≡ None
+pub import_unnamed : (src : List ℕ) (node : TreeNode) (h start : ℕ) → id_of_ident_child local_child_of node ≡ None
     → events_if_some (kind_of node) (import_specifier_events src node) h start ≡ []
 import_unnamed src node h start e = on_each_nothing (kind_of node) (import_specifier_events src node) h start
-    (λ kind. on_nothing (id_of_ident_child local_of node) (λ (id : Id). events_if_some (import_dep_name id kind) (import_decl_events src node id)) h start e)
+    (λ kind. on_nothing (id_of_ident_child local_child_of node) (λ (id : Id). events_if_some (import_dep_name id kind) (import_decl_events src node id)) h start
+    e)
 
-pub import_named : (src : List ℕ) (node : TreeNode) (id : Id) (h start : ℕ) → id_of_ident_child local_of node ≡ Some id
+pub import_named : (src : List ℕ) (node : TreeNode) (id : Id) (h start : ℕ) → id_of_ident_child local_child_of node ≡ Some id
     → events_if_some (kind_of node) (import_specifier_events src node) h start
     ≡ events_if_some (option_and_then (import_dep_name id) (kind_of node)) (import_decl_events src node id) h start
 import_named src node id h start e =
     on_same (kind_of node) (import_specifier_events src node) (λ (kind : Kind). events_if_some (import_dep_name id kind) (import_decl_events src node id)) h
     start
-    (λ kind. on_thing (id_of_ident_child local_of node) id (λ (x : Id). events_if_some (import_dep_name x kind) (import_decl_events src node x)) h start e)
+    (λ kind. on_thing (id_of_ident_child local_child_of node) id (λ (x : Id). events_if_some (import_dep_name x kind) (import_decl_events src node x)) h start
+    e)
     ∙ on_both (kind_of node) (import_dep_name id) (import_decl_events src node id) h start
 
 pub import_found : (src : List ℕ) (tree : Tree) (n : ℕ) (node : TreeNode) (h start : ℕ) → node_in tree (Some n) ≡ Some node
@@ -126,7 +128,7 @@ import_found src tree n node h start e = on_thing (node_in tree (Some n)) node (
 
 pub import_one : (src : List ℕ) (tree : Tree) (n : ℕ) (node : TreeNode) (id : Id) (name : FileDepNameView) (kind : DeclKindView) (range : SourceRange)
     (decl : Declaration)
-    (h start : ℕ) → node_in tree (Some n) ≡ Some node → id_of_ident_child local_of node ≡ Some id
+    (h start : ℕ) → node_in tree (Some n) ≡ Some node → id_of_ident_child local_child_of node ≡ Some id
     → option_and_then (import_dep_name id) (kind_of node) ≡ Some name → range_of node ≡ Some range → kind ≡ file_ref name src
     → decl ≡ declaration_of_kind kind range
     → import_specifier_events_at src tree n h start ≡ declare h (id_view id) decl ∷ []
@@ -210,34 +212,35 @@ bound b rows found id s symbol is_symbol_named at is =
 pub default_decl_as : (node decl : TreeNode) (range : SourceRange) (d : Declaration) (h start : ℕ) → range_of node ≡ Some range
     → d ≡ definition_of_node (export_default_decl node) range
     → default_decl_events node decl h start ≡ default h d ∷ (bind_events_if (declared_name decl) start
-    ++ events_of_each (member_events_at decl.tree) (member_nodes decl) start (start + 1 + length (bind_events_if (declared_name decl) start)))
+    ++ events_of_each (member_events_at decl.tree) (class_or_interface_member_numbers decl) start
+    (start + 1 + length (bind_events_if (declared_name decl) start)))
 default_decl_as node decl range d h start index is_decl =
     let e : d ≡ definition_of_node (export_default_decl node) (range_or_empty node) = is_decl ∙ rw (occurs node range index) refl in
     let names = bind_events_if (declared_name decl) start in
-    ap (λ (x : Declaration). default h x ∷ (names ++ events_of_each (member_events_at decl.tree) (member_nodes decl) start (start + 1 + length names))) (sym e)
+    ap (λ (x : Declaration). default h x ∷ (names ++ events_of_each (member_events_at decl.tree) (class_or_interface_member_numbers decl) start
+    (start + 1 + length names))) (sym e)
 
 pub default_decl_rows : (rows : List EventEffect) (node decl : TreeNode) (range : SourceRange) (d : Declaration) (row : EventEffect) (h : ℕ)
     → range_of node ≡ Some range
     → d ≡ definition_of_node (export_default_decl node) range → effect_of_event (changes_of_effects rows) (symbol_of_event_at rows) (default h d) ≡ row
     → effects_after_events rows (default_decl_events node decl h (length rows))
     ≡ effects_after_events (effects_after_events (rows ++ row ∷ []) (bind_events_if (declared_name decl) (length rows)))
-    (events_of_each (member_events_at decl.tree) (member_nodes decl)
+    (events_of_each (member_events_at decl.tree) (class_or_interface_member_numbers decl)
     (length rows) (length (effects_after_events (rows ++ row ∷ []) (bind_events_if (declared_name decl) (length rows)))))
 default_decl_rows rows node decl range d row h index is_decl reads =
     ap (λ (events : List DeclarationEvent). effects_after_events rows events) (default_decl_as node decl range d h (length rows) index is_decl)
-    ∙ rows_of_three rows (default h d) row (bind_events_if (declared_name decl) (length rows)) (events_of_each (member_events_at decl.tree) (member_nodes decl))
-    (length
-    rows) reads
+    ∙ rows_of_three rows (default h d) row (bind_events_if (declared_name decl) (length rows))
+    (events_of_each (member_events_at decl.tree) (class_or_interface_member_numbers decl)) (length rows) reads
 
 -- ---- `import a = ..`
 
 pub alias_one : (node : TreeNode) (test : Bool) (entity : Option ℕ) (external : Option (String Global)) (id : Id) (kind : DeclKindView) (range : SourceRange)
-    (decl : Declaration) (h start : ℕ) → id_of_ident_child id_of node ≡ Some id → import_equals_decl_kind node entity external ≡ Some kind
+    (decl : Declaration) (h start : ℕ) → id_of_ident_child id_child_of node ≡ Some id → import_equals_decl_kind node entity external ≡ Some kind
     → range_of node ≡ Some range → decl ≡ declaration_of_kind kind range
     → import_equals_events node test entity external h start ≡ declare_alias h (id_view id) decl ∷ export_event_if test h (string_bytes id.name) start
 alias_one node test entity external id kind range decl h start is_symbol_named is_kind index is_decl =
     let e : decl ≡ declaration_of_kind kind (range_or_empty node) = is_decl ∙ rw (occurs node range index) refl in
-    on_thing (id_of_ident_child id_of node) id (λ (x : Id). events_if_some (import_equals_decl_kind node entity external)
+    on_thing (id_of_ident_child id_child_of node) id (λ (x : Id). events_if_some (import_equals_decl_kind node entity external)
     (import_equals_alias_events node test x))
     h start is_symbol_named
     ∙ on_thing (import_equals_decl_kind node entity external) kind (import_equals_alias_events node test id) h start is_kind

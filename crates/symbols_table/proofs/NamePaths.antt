@@ -13,21 +13,22 @@ use Rattle.symbols_table.specs.declared.decl.symbol.Symbol.{Symbol}
 use Rattle.symbols_table.specs.declared.info.qualified_name.NamedSuffix.{NamedSuffix}
 use Rattle.symbols_table.specs.Laws.{IsLawfulParent, AreLawfulSymbols}
 use Rattle.symbols_table.specs.inner.NamePaths.{reversed_pieces_text, suffix_text, IsNameOfPathSuffixIfAny, IsNameOfPathSuffix}
-use Rattle.symbols_nodes.specs.NodeTests.{is_class}
+use Rattle.symbols_nodes.specs.NodeTests.{is_class_exported_or_not}
 use Rattle.symbols_table.specs.SymbolViews.{SymbolView, symbol_view, symbol_name, first_decl_node_satisfies, symbol_view_of_number}
-use Rattle.symbols_table.specs.QualifiedNames.{SymbolById, has_member_symbol, nested_name_suffix, name_with_nested_suffix, escaped_text}
-use Rattle.symbols_table.specs.QualifiedNames.{symbol_path_name, symbol_path_within, symbol_path_from_module, text_unless_empty, qualified_name}
+use Rattle.symbols_table.specs.QualifiedNames.{SymbolById, has_member_symbol, dot_prototype_or_bracket_suffix, name_with_dot_or_bracket_suffix}
+use Rattle.symbols_table.specs.QualifiedNames.{text_with_quotes_escaped, symbol_path_name, symbol_path_within_length, symbol_path_from_module}
+use Rattle.symbols_table.specs.QualifiedNames.{text_unless_empty, qualified_name}
 
 -- The path to a symbol without a parent is empty.
 pub path_ends : (symbols : SymbolById) (n : ℕ) (s : SymbolId) (symbol : SymbolView) → symbols s ≡ Some symbol → symbol.parent ≡ None
-    → symbol_path_within symbols (suc n) s ≡ []
-unfolding symbol_path_within
+    → symbol_path_within_length symbols (suc n) s ≡ []
+unfolding symbol_path_within_length
 path_ends symbols n s symbol at none = rw (at, none) refl
 
 -- The path to any other symbol is its parent's path followed by the symbol.
 pub path_goes_on : (symbols : SymbolById) (n : ℕ) (s parent : SymbolId) (symbol : SymbolView) → symbols s ≡ Some symbol → symbol.parent ≡ Some parent
-    → symbol_path_within symbols (suc n) s ≡ symbol_path_within symbols n parent ++ symbol ∷ []
-unfolding symbol_path_within
+    → symbol_path_within_length symbols (suc n) s ≡ symbol_path_within_length symbols n parent ++ symbol ∷ []
+unfolding symbol_path_within_length
 path_goes_on symbols n s parent symbol at has = rw (at, has) refl
 
 -- If the lower part of a path has no name, the whole path has none.
@@ -44,14 +45,14 @@ no_name_first symbol [] none = none
 no_name_first symbol (inner ∷ lower) none = by (symbol_path_name (inner ∷ lower)) refl
   where
     by : (o : Option (List ℕ)) → symbol_path_name (inner ∷ lower) ≡ o
-        → option_and_then (λ (text : List ℕ). option_map (name_with_nested_suffix symbol inner.number text) (symbol_name symbol)) o ≡ None
+        → option_and_then (λ (text : List ℕ). option_map (name_with_dot_or_bracket_suffix symbol inner.number text) (symbol_name symbol)) o ≡ None
     by None e = refl
     by (Some text) e = rw none refl
 
 -- ---- a symbol before a part that has a name
 
 over_text : (symbol : SymbolView) (inner : SymbolId) (text name : List ℕ) → 0 < length text
-    → name_with_nested_suffix symbol inner text name ≡ name ++ nested_name_suffix symbol inner text
+    → name_with_dot_or_bracket_suffix symbol inner text name ≡ name ++ dot_prototype_or_bracket_suffix symbol inner text
 over_text symbol inner [] name some = absurd (omega (arith, some))
 over_text symbol inner (b ∷ text) name some = refl
 
@@ -59,22 +60,22 @@ more_after : (xs ys : List ℕ) → 0 < length ys → 0 < length (xs ++ ys)
 more_after [] ys some = some
 more_after (x ∷ xs) ys some = omega arith
 
-some_suffix : (symbol : SymbolView) (inner : SymbolId) (text : List ℕ) → 0 < length (nested_name_suffix symbol inner text)
-some_suffix symbol inner text = by (has_member_symbol symbol inner) (first_decl_node_satisfies is_class symbol)
+some_suffix : (symbol : SymbolView) (inner : SymbolId) (text : List ℕ) → 0 < length (dot_prototype_or_bracket_suffix symbol inner text)
+some_suffix symbol inner text = by (has_member_symbol symbol inner) (first_decl_node_satisfies is_class_exported_or_not symbol)
   where
     by : (is_member of_class : Bool) → 0 < length (if not is_member then codes "." ++ text else if of_class then codes ".prototype." ++ text
-        else codes "[\"" ++ (escaped_text text ++ codes "\"]"))
+        else codes "[\"" ++ (text_with_quotes_escaped text ++ codes "\"]"))
     by false of_class = omega arith
     by true true = omega arith
     by true false = omega arith
 
 name_of_both : (symbol inner : SymbolView) (lower path : List SymbolView) (text name : List ℕ) → path ≡ inner ∷ lower → symbol_path_name path ≡ Some text
-    → symbol_name symbol ≡ Some name → symbol_path_name (symbol ∷ path) ≡ Some (name_with_nested_suffix symbol inner.number text name)
+    → symbol_name symbol ≡ Some name → symbol_path_name (symbol ∷ path) ≡ Some (name_with_dot_or_bracket_suffix symbol inner.number text name)
 name_of_both symbol inner lower path text name is inner_is is_named = rw (is, sym (ap symbol_path_name is) ∙ inner_is, is_named) refl
 
 pub part_greater : (symbol : SymbolView) (path : List SymbolView) (inner named : NamedSuffix) (name : List ℕ) → IsNameOfPathSuffix inner path
     → symbol_name symbol ≡ Some name → named.number ≡ symbol.number
-    → suffix_text named ≡ name ++ nested_name_suffix symbol inner.number (suffix_text inner) → IsNameOfPathSuffix named (symbol ∷ path)
+    → suffix_text named ≡ name ++ dot_prototype_or_bracket_suffix symbol inner.number (suffix_text inner) → IsNameOfPathSuffix named (symbol ∷ path)
 part_greater symbol path inner named name part is_named number text =
     let over = over_text symbol inner.number (suffix_text inner) name part.some in
     let some = some_suffix symbol inner.number (suffix_text inner) in
@@ -82,8 +83,8 @@ part_greater symbol path inner named name part is_named number text =
       first = (symbol, path, refl, sym number);
       name =
           name_of_both symbol part.first.0 part.first.1 path (suffix_text inner) name part.first.2 part.name is_named
-          ∙ ap Some (ap (λ n. name_with_nested_suffix symbol n (suffix_text inner) name) part.first.3 ∙ (over ∙ sym text));
-      some = subst (λ (t : List ℕ). 0 < length t) (sym text) (more_after name (nested_name_suffix symbol inner.number (suffix_text inner)) some);
+          ∙ ap Some (ap (λ n. name_with_dot_or_bracket_suffix symbol n (suffix_text inner) name) part.first.3 ∙ (over ∙ sym text));
+      some = subst (λ (t : List ℕ). 0 < length t) (sym text) (more_after name (dot_prototype_or_bracket_suffix symbol inner.number (suffix_text inner)) some);
     }
 
 -- The last piece of the list is the first of the text.
@@ -104,7 +105,7 @@ one_consumed text first pieces rest piece whole is first_is so =
 abbrev pub IsReadTo : List Symbol → SymbolId → SymbolId → Option NamedSuffix → Type 0
 IsReadTo symbols queried number inner =
     (n : ℕ) × (lower : List SymbolView) × (number.0 < length symbols) × (number.0 < n)
-    × (symbol_path_from_module (symbol_view_of_number symbols) queried ≡ symbol_path_within (symbol_view_of_number symbols) n number ++ lower)
+    × (symbol_path_from_module (symbol_view_of_number symbols) queried ≡ symbol_path_within_length (symbol_view_of_number symbols) n number ++ lower)
     × IsNameOfPathSuffixIfAny inner lower
 
 -- The symbol that was read at a number is the one of that number.
@@ -127,12 +128,13 @@ falls symbols module_id number parent d lawful below has =
 -- The remaining path gets one symbol shorter.
 shorter : (symbols : List Symbol) (queried number parent : SymbolId) (symbol : Symbol) (n : ℕ) (lower : List SymbolView)
     → slice_get symbols number.0 ≡ Some symbol → symbol.parent_id ≡ Some parent
-    → symbol_path_from_module (symbol_view_of_number symbols) queried ≡ symbol_path_within (symbol_view_of_number symbols) (suc n) number ++ lower
-    → symbol_path_from_module (symbol_view_of_number symbols) queried ≡ symbol_path_within (symbol_view_of_number symbols) n parent ++ symbol_view symbol
+    → symbol_path_from_module (symbol_view_of_number symbols) queried ≡ symbol_path_within_length (symbol_view_of_number symbols) (suc n) number ++ lower
+    → symbol_path_from_module (symbol_view_of_number symbols) queried ≡ symbol_path_within_length (symbol_view_of_number symbols) n parent ++ symbol_view symbol
     ∷ lower
 shorter symbols queried number parent symbol n lower at has path =
     let up = path_goes_on (symbol_view_of_number symbols) n number parent (symbol_view symbol) (ap (option_map symbol_view) at) has in
-    path ∙ ap (λ (p : List SymbolView). p ++ lower) up ∙ append_assoc (symbol_path_within (symbol_view_of_number symbols) n parent) (symbol_view symbol ∷ [])
+    path ∙ ap (λ (p : List SymbolView). p ++ lower) up ∙ append_assoc (symbol_path_within_length (symbol_view_of_number symbols) n parent)
+    (symbol_view symbol ∷ [])
     lower
 
 -- The state of the loop holds after one more symbol.
@@ -165,7 +167,8 @@ unnamed symbols queried number parent symbol d inner read has none (suc n, lower
     let at = occurs symbols number symbol below read in
     let whole = shorter symbols queried number parent symbol n lower at (has_parent symbols number parent symbol d at has) path in
     sym (ap (option_and_then text_unless_empty) (ap symbol_path_name whole
-    ∙ no_name_greater (symbol_path_within (symbol_view_of_number symbols) n parent) (symbol_view symbol) lower (no_name_first (symbol_view symbol) lower none)))
+    ∙ no_name_greater (symbol_path_within_length (symbol_view_of_number symbols) n parent) (symbol_view symbol) lower
+    (no_name_first (symbol_view symbol) lower none)))
 
 -- At a symbol without a parent the whole path was read.
 all_read : (symbols : List Symbol) (queried number : SymbolId) (d : Symbol) (inner : Option NamedSuffix) → (get_or symbols number.0 d).parent_id ≡ None
@@ -213,7 +216,7 @@ none_at_zero n None least is = refl
 none_at_zero n (Some parent) least is = absurd (omega (arith, least, is))
 
 no_path_greater : (symbols : SymbolById) (n : ℕ) (s : SymbolId) (symbol : SymbolView) → 0 < n → symbols s ≡ Some symbol → symbol.parent ≡ None
-    → symbol_path_within symbols n s ≡ []
+    → symbol_path_within_length symbols n s ≡ []
 no_path_greater symbols zero s symbol some at none = absurd (omega (arith, some))
 no_path_greater symbols (suc n) s symbol some at none = path_ends symbols n s symbol at none
 

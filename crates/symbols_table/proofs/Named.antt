@@ -9,11 +9,10 @@ use Rattle.std.proofs.lemmas.Bool.{cases_eq}
 use Rattle.std.proofs.lemmas.Bool.Decides.{nat_tests}
 use Rattle.std.proofs.lemmas.List.Folds.{find-append}
 use Rattle.symbols_ast.specs.declared.ids.SymbolId.{SymbolId}
-use Rattle.symbols_table.specs.DeclViews.{Declaration, decl_name, is_overload_after_decl, last_decl}
+use Rattle.symbols_table.specs.DeclViews.{Declaration, decl_name, gets_overload_flag_after_decl, last_decl}
 use Rattle.symbols_table.specs.Changes.{Change, adds_symbol, adds_decl, adds_child, adds_member, is_same_symbol_id, some_if, decl_added_by, child_added_by}
-use Rattle.symbols_table.specs.Changes.{member_added_by}
-use Rattle.symbols_table.specs.Changes.{append_if_absent, decls_after, children_after, members_after, local_name, is_symbol_named, first_child_named}
-use Rattle.symbols_table.specs.Changes.{first_member_named}
+use Rattle.symbols_table.specs.Changes.{member_added_by, append_if_absent, decls_after_changes, children_after_changes, members_after_changes}
+use Rattle.symbols_table.specs.Changes.{local_name_after_changes, is_symbol_named, first_child_named, first_member_named}
 use Rattle.symbols_table.specs.inner.Tables.{NamesSymbolsBelow}
 use Rattle.symbols_table.proofs.OneMore.{only_same, only_other, decls_after-out, decls_after-in, children_after-out}
 use Rattle.symbols_table.proofs.OneMore.{children_after-in, members_after-out, members_after-in}
@@ -66,27 +65,31 @@ find_with_first p xs x = by (list_any (is_same_symbol_id x) xs) refl (p x) refl
 
 -- Local names are unchanged by a change that adds no declaration.
 pub name_out : (changes : List Change) (change : Change) (s : SymbolId) → decl_added_by s change ≡ None
-    → local_name (changes ++ change ∷ []) s ≡ local_name changes s
+    → local_name_after_changes (changes ++ change ∷ []) s ≡ local_name_after_changes changes s
 name_out changes change s out = rw (decls_after-out changes change s out) refl
 
 -- Local names are unchanged by a declaration that is not the symbol's first.
-name_more : (changes : List Change) (t s : SymbolId) (x : Declaration) → 0 < length (decls_after changes t)
-    → local_name (changes ++ adds_decl t x ∷ []) s ≡ local_name changes s
+name_more : (changes : List Change) (t s : SymbolId) (x : Declaration) → 0 < length (decls_after_changes changes t)
+    → local_name_after_changes (changes ++ adds_decl t x ∷ []) s ≡ local_name_after_changes changes s
 name_more changes t s x some = by (cases_eq s.0 t.0)
   where
     first_retained : (ds : List Declaration) (d : Declaration) → 0 < length ds → slice_get (ds ++ d ∷ []) 0 ≡ slice_get ds 0
     first_retained [] d lt = absurd (omega (arith, lt))
     first_retained (y ∷ ys) d lt = refl
 
-    by : (s.0 ≡ t.0) ⊎ (s.0 ≢ t.0) → local_name (changes ++ adds_decl t x ∷ []) s ≡ local_name changes s
+    by : (s.0 ≡ t.0) ⊎ (s.0 ≢ t.0) → local_name_after_changes (changes ++ adds_decl t x ∷ []) s ≡ local_name_after_changes changes s
     by (inl same) =
-        let P : ℕ → Type 0 = λ n. local_name (changes ++ adds_decl t x ∷ []) (record { 0 = n }) ≡ local_name changes (record { 0 = n }) in
+        let P : ℕ → Type 0 = λ n. local_name_after_changes (changes ++ adds_decl t x ∷ []) (record { 0 = n })
+        ≡ local_name_after_changes changes (record { 0 = n }) in
         subst P (sym same) (rw (decls_after-in changes (adds_decl t x) t x (only_same t x)) (ap (option_and_then decl_name)
-        (first_retained (decls_after changes t) (record x { has_overloads = is_overload_after_decl (last_decl (decls_after changes t)) x }) some)))
+        (first_retained (decls_after_changes changes t) (record x {
+          has_overloads = gets_overload_flag_after_decl (last_decl (decls_after_changes changes t)) x;
+        }) some)))
     by (inr other) = name_out changes (adds_decl t x) s (only_other t s x other)
 
 -- A search by name finds the same after changes that leave these names unchanged.
-pub retained_named : (before after : List Change) (name : List ℕ) (xs : List SymbolId) → All (λ x. local_name after x ≡ local_name before x) xs
+pub retained_named : (before after : List Change) (name : List ℕ) (xs : List SymbolId)
+    → All (λ x. local_name_after_changes after x ≡ local_name_after_changes before x) xs
     → find (is_symbol_named after name) xs ≡ find (is_symbol_named before name) xs
 retained_named before after name xs retained =
     find_same (is_symbol_named after name) (is_symbol_named before name) xs
@@ -94,7 +97,7 @@ retained_named before after name xs retained =
 
 -- The change leaves children, members and first declarations as they are.
 pub record IsQuiet (changes : List Change) (change : Change) : Type 0 where
-  pub names : (s : SymbolId) → local_name (changes ++ change ∷ []) s ≡ local_name changes s
+  pub names : (s : SymbolId) → local_name_after_changes (changes ++ change ∷ []) s ≡ local_name_after_changes changes s
   pub child : (s : SymbolId) → child_added_by s change ≡ None
   pub member : (s : SymbolId) → member_added_by s change ≡ None
 
@@ -102,20 +105,22 @@ pub child_quiet : (changes : List Change) (change : Change) → IsQuiet changes 
     → first_child_named (changes ++ change ∷ []) h name ≡ first_child_named changes h name
 child_quiet changes change quiet h name =
     rw (children_after-out changes change h (quiet.child h))
-    (retained_named changes (changes ++ change ∷ []) name (children_after changes h) (λ k d lt. quiet.names (get_or (children_after changes h) k d)))
+    (retained_named changes (changes ++ change ∷ []) name (children_after_changes changes h)
+    (λ k d lt. quiet.names (get_or (children_after_changes changes h) k d)))
 
 pub member_quiet : (changes : List Change) (change : Change) → IsQuiet changes change → (h : SymbolId) (name : List ℕ)
     → first_member_named (changes ++ change ∷ []) h name ≡ first_member_named changes h name
 member_quiet changes change quiet h name =
     rw (members_after-out changes change h (quiet.member h))
-    (retained_named changes (changes ++ change ∷ []) name (members_after changes h) (λ k d lt. quiet.names (get_or (members_after changes h) k d)))
+    (retained_named changes (changes ++ change ∷ []) name (members_after_changes changes h)
+    (λ k d lt. quiet.names (get_or (members_after_changes changes h) k d)))
 
 -- A change that adds no declaration, child or member is quiet.
 pub quiet : (changes : List Change) (change : Change) → ((s : SymbolId) → decl_added_by s change ≡ None) → ((s : SymbolId) → child_added_by s change ≡ None)
     → ((s : SymbolId) → member_added_by s change ≡ None) → IsQuiet changes change
 quiet changes change no_decl no_child no_member = record { names = λ s. name_out changes change s (no_decl s); child = no_child; member = no_member }
 
-pub quiet_decl : (changes : List Change) (t : SymbolId) (x : Declaration) → 0 < length (decls_after changes t) → IsQuiet changes (adds_decl t x)
+pub quiet_decl : (changes : List Change) (t : SymbolId) (x : Declaration) → 0 < length (decls_after_changes changes t) → IsQuiet changes (adds_decl t x)
 quiet_decl changes t x some = record { names = λ s. name_more changes t s x some; child = λ s. refl; member = λ s. refl }
 
 abbrev pub if_named : List Change → List ℕ → Bool → SymbolId → Option SymbolId
@@ -137,15 +142,16 @@ child_added changes t x h name = by (cases_eq h.0 t.0)
         ≡ option_or (first_child_named changes h name) (if_named changes name (is_same_symbol_id t h) x)
     by (inl same) =
         let test : (t.0 == h.0) ≡ true = grind (arith, nat_tests) in
-        let P : ℕ → Type 0 = λ n. children_after (changes ++ adds_child t x ∷ []) (record { 0 = n })
-        ≡ append_if_absent (children_after changes (record { 0 = n })) x in
-        let more : children_after (changes ++ adds_child t x ∷ []) h ≡ append_if_absent (children_after changes h) x =
+        let P : ℕ → Type 0 = λ n. children_after_changes (changes ++ adds_child t x ∷ []) (record { 0 = n })
+        ≡ append_if_absent (children_after_changes changes (record { 0 = n })) x in
+        let more : children_after_changes (changes ++ adds_child t x ∷ []) h ≡ append_if_absent (children_after_changes changes h) x =
         subst P (sym same) (children_after-in changes (adds_child t x) t x (only_same t x)) in
-        rw (test, more) (names (append_if_absent (children_after changes h) x) ∙ find_with_first (is_symbol_named changes name) (children_after changes h) x)
+        rw (test, more) (names (append_if_absent (children_after_changes changes h) x) ∙ find_with_first (is_symbol_named changes name)
+        (children_after_changes changes h) x)
     by (inr other) =
         let test : (t.0 == h.0) ≡ false = grind (arith, nat_tests) in
-        rw (test, children_after-out changes (adds_child t x) h (only_other t h x other)) (names (children_after changes h)
-        ∙ none_else (find (is_symbol_named changes name) (children_after changes h)))
+        rw (test, children_after-out changes (adds_child t x) h (only_other t h x other)) (names (children_after_changes changes h)
+        ∙ none_else (find (is_symbol_named changes name) (children_after_changes changes h)))
 
 -- An added member is found by its name if no other was found before.
 pub member_added : (changes : List Change) (t x h : SymbolId) (name : List ℕ)
@@ -160,15 +166,16 @@ member_added changes t x h name = by (cases_eq h.0 t.0)
         ≡ option_or (first_member_named changes h name) (if_named changes name (is_same_symbol_id t h) x)
     by (inl same) =
         let test : (t.0 == h.0) ≡ true = grind (arith, nat_tests) in
-        let P : ℕ → Type 0 = λ n. members_after (changes ++ adds_member t x ∷ []) (record { 0 = n }) ≡ append_if_absent
-        (members_after changes (record { 0 = n })) x in
-        let more : members_after (changes ++ adds_member t x ∷ []) h ≡ append_if_absent (members_after changes h) x =
+        let P : ℕ → Type 0 = λ n. members_after_changes (changes ++ adds_member t x ∷ []) (record { 0 = n }) ≡ append_if_absent
+        (members_after_changes changes (record { 0 = n })) x in
+        let more : members_after_changes (changes ++ adds_member t x ∷ []) h ≡ append_if_absent (members_after_changes changes h) x =
         subst P (sym same) (members_after-in changes (adds_member t x) t x (only_same t x)) in
-        rw (test, more) (names (append_if_absent (members_after changes h) x) ∙ find_with_first (is_symbol_named changes name) (members_after changes h) x)
+        rw (test, more) (names (append_if_absent (members_after_changes changes h) x) ∙ find_with_first (is_symbol_named changes name)
+        (members_after_changes changes h) x)
     by (inr other) =
         let test : (t.0 == h.0) ≡ false = grind (arith, nat_tests) in
-        rw (test, members_after-out changes (adds_member t x) h (only_other t h x other)) (names (members_after changes h)
-        ∙ none_else (find (is_symbol_named changes name) (members_after changes h)))
+        rw (test, members_after-out changes (adds_member t x) h (only_other t h x other)) (names (members_after_changes changes h)
+        ∙ none_else (find (is_symbol_named changes name) (members_after_changes changes h)))
 
 -- A new symbol is not yet a child or a member.
 module _ (changes : List Change) (count : ℕ) (sound : All (NamesSymbolsBelow count) changes) (parent : Option SymbolId) (t : SymbolId) (x : Declaration)
@@ -177,20 +184,20 @@ module _ (changes : List Change) (count : ℕ) (sound : All (NamesSymbolsBelow c
   abbrev after : List Change
   after = (changes ++ adds_symbol parent ∷ []) ++ adds_decl t x ∷ []
 
-  below_retained : (s : SymbolId) → s.0 < count → local_name after s ≡ local_name changes s
+  below_retained : (s : SymbolId) → s.0 < count → local_name_after_changes after s ≡ local_name_after_changes changes s
   below_retained s lt = name_out (changes ++ adds_symbol parent ∷ []) (adds_decl t x) s (only_other t s x (λ e. absurd (omega (arith, e, lt, number))))
       ∙ name_out changes (adds_symbol parent) s refl
 
   pub child_made : (h : SymbolId) (name : List ℕ) → first_child_named after h name ≡ first_child_named changes h name
   child_made h name =
-      let same : children_after after h ≡ children_after changes h =
+      let same : children_after_changes after h ≡ children_after_changes changes h =
       children_after-out (changes ++ adds_symbol parent ∷ []) (adds_decl t x) h refl ∙ children_after-out changes (adds_symbol parent) h refl in
-      rw same (retained_named changes after name (children_after changes h)
-      (λ k d lt. below_retained (get_or (children_after changes h) k d) (children_inside count changes h sound k d lt)))
+      rw same (retained_named changes after name (children_after_changes changes h)
+      (λ k d lt. below_retained (get_or (children_after_changes changes h) k d) (children_inside count changes h sound k d lt)))
 
   pub member_made : (h : SymbolId) (name : List ℕ) → first_member_named after h name ≡ first_member_named changes h name
   member_made h name =
-      let same : members_after after h ≡ members_after changes h =
+      let same : members_after_changes after h ≡ members_after_changes changes h =
       members_after-out (changes ++ adds_symbol parent ∷ []) (adds_decl t x) h refl ∙ members_after-out changes (adds_symbol parent) h refl in
-      rw same (retained_named changes after name (members_after changes h)
-      (λ k d lt. below_retained (get_or (members_after changes h) k d) (members_inside count changes h sound k d lt)))
+      rw same (retained_named changes after name (members_after_changes changes h)
+      (λ k d lt. below_retained (get_or (members_after_changes changes h) k d) (members_inside count changes h sound k d lt)))

@@ -20,15 +20,13 @@ use Rattle.symbols_ast.specs.Ids.{IdView, is_same_id}
 use Rattle.symbols_table.specs.declared.decl.symbol.Symbol.{Symbol}
 use Rattle.symbols_table.specs.declared.builder.names.LocalName.{LocalName}
 use Rattle.symbols_table.specs.declared.builder.table.ModuleBuilder.{ModuleBuilder}
-use Rattle.symbols_table.specs.DeclViews.{Declaration, decl_view, append_decl_with_overload_flag, is_overload_after_decl, last_decl}
+use Rattle.symbols_table.specs.DeclViews.{Declaration, decl_view, append_decl_with_overload_flag, gets_overload_flag_after_decl, last_decl}
 use Rattle.symbols_table.specs.TableViews.{SymbolMapsView, empty_symbol_maps}
 use Rattle.symbols_table.specs.Changes.{Change, ExportStarStatement, adds_symbol, adds_decl, exports, adds_child, adds_member, maps, re_exports_all}
-use Rattle.symbols_table.specs.Changes.{is_same_symbol_id}
-use Rattle.symbols_table.specs.Changes.{export_star_added_by}
-use Rattle.symbols_table.specs.Changes.{export_stars_after, first_child_named, first_member_named, parent_of_symbol_made_by, decl_added_by, export_inserted_by}
-use Rattle.symbols_table.specs.Changes.{child_added_by, member_added_by, symbol_bound_to_ident_by}
-use Rattle.symbols_table.specs.Changes.{parents_after, decls_after, exports_after, children_after, members_after, symbol_of_ident_after_changes}
-use Rattle.symbols_table.specs.Changes.{append_if_absent}
+use Rattle.symbols_table.specs.Changes.{is_same_symbol_id, export_star_added_by, export_stars_after_changes, first_child_named, first_member_named}
+use Rattle.symbols_table.specs.Changes.{parent_of_symbol_made_by, decl_added_by, export_inserted_by, child_added_by, member_added_by, symbol_bound_to_ident_by}
+use Rattle.symbols_table.specs.Changes.{parents_after_changes, decls_after_changes, exports_after_changes, children_after_changes, members_after_changes}
+use Rattle.symbols_table.specs.Changes.{symbol_of_ident_after_changes, append_if_absent}
 use Rattle.symbols_table.specs.declared.info.re_exports.StarStatement.{StarStatement}
 use Rattle.symbols_table.specs.ModuleViews.{identifier_bindings_view, export_star_view}
 use Rattle.symbols_table.specs.inner.Symbols.{IsSymbolOfChanges}
@@ -98,14 +96,17 @@ bare_retained changes change s spares is = record {
 }
 
 -- A change never removes declarations.
-decls_after-grow : (changes : List Change) (s : SymbolId) (change : Change) → length (decls_after changes s) ≤ length (decls_after (changes ++ change ∷ []) s)
+decls_after-grow : (changes : List Change) (s : SymbolId) (change : Change) → length (decls_after_changes changes s)
+    ≤ length (decls_after_changes (changes ++ change ∷ []) s)
 decls_after-grow changes s change = by (decl_added_by s change) refl
   where
-    by : (o : Option Declaration) → decl_added_by s change ≡ o → length (decls_after changes s) ≤ length (decls_after (changes ++ change ∷ []) s)
+    by : (o : Option Declaration) → decl_added_by s change ≡ o → length (decls_after_changes changes s)
+        ≤ length (decls_after_changes (changes ++ change ∷ []) s)
     by None is = rw (decls_after-out changes change s is) (omega arith)
     by (Some decl) is = rw (
       decls_after-in changes change s decl is,
-      length-append (decls_after changes s) ((record decl { has_overloads = is_overload_after_decl (last_decl (decls_after changes s)) decl }) ∷ []),
+      length-append (decls_after_changes changes s)
+          ((record decl { has_overloads = gets_overload_flag_after_decl (last_decl (decls_after_changes changes s)) decl }) ∷ []),
     ) (omega arith)
 
 -- Only the symbol t of the builder is written.
@@ -166,7 +167,7 @@ module _ {b after : ModuleBuilder} {t : SymbolId} {old new : Symbol} (w : Writes
           rw at (symbol_retained b.setting.module_id changes change s (get_or b.symbols.items s.0 d) silent (spares s other) (is.symbols s d lt))
 
   same_parent : (change : Change) → parent_of_symbol_made_by change ≡ None → IsSymbolOfChanges b.setting.module_id changes t old
-      → slice_get (parents_after (changes ++ change ∷ [])) t.0 ≡ Some new.parent_id
+      → slice_get (parents_after_changes (changes ++ change ∷ [])) t.0 ≡ Some new.parent_id
   same_parent change silent h = rw (parents_after-out changes change silent, w.parent) h.parent
 
   pub only_exports : (name : List ℕ) (x : SymbolId) → x.0 < length b.symbols.items → 0 < x.0
@@ -207,7 +208,7 @@ module _ {b after : ModuleBuilder} {t : SymbolId} {old new : Symbol} (w : Writes
     where
       member_still : (h : SymbolId) (name : List ℕ) → first_member_named (changes ++ adds_child t x ∷ []) h name ≡ first_member_named changes h name
       member_still h name = rw (members_after-out changes (adds_child t x) h refl) (retained_named changes (changes ++ adds_child t x ∷ []) name
-          (members_after changes h) (λ k d lt. name_out changes (adds_child t x) (get_or (members_after changes h) k d) refl))
+          (members_after_changes changes h) (λ k d lt. name_out changes (adds_child t x) (get_or (members_after_changes changes h) k d) refl))
 
       by : IsSymbolOfChanges b.setting.module_id changes t old → IsSymbolOfChanges b.setting.module_id (changes ++ adds_child t x ∷ []) t new
       by h = record {
@@ -233,7 +234,7 @@ module _ {b after : ModuleBuilder} {t : SymbolId} {old new : Symbol} (w : Writes
     where
       child_still : (h : SymbolId) (name : List ℕ) → first_child_named (changes ++ adds_member t x ∷ []) h name ≡ first_child_named changes h name
       child_still h name = rw (children_after-out changes (adds_member t x) h refl) (retained_named changes (changes ++ adds_member t x ∷ []) name
-          (children_after changes h) (λ k d lt. name_out changes (adds_member t x) (get_or (children_after changes h) k d) refl))
+          (children_after_changes changes h) (λ k d lt. name_out changes (adds_member t x) (get_or (children_after_changes changes h) k d) refl))
 
       by : IsSymbolOfChanges b.setting.module_id changes t old → IsSymbolOfChanges b.setting.module_id (changes ++ adds_member t x ∷ []) t new
       by h = record {
@@ -336,7 +337,8 @@ module _ (b after : ModuleBuilder) (changes : List Change) (parent : Option Symb
       (record {
         number = is.number;
         of_module = is.of_module;
-        parent = rw (parents_after-in changes (adds_symbol parent) parent refl) (slice_get-push (parents_after changes) parent s.0 symbol.parent_id is.parent);
+        parent = rw (parents_after-in changes (adds_symbol parent) parent refl)
+            (slice_get-push (parents_after_changes changes) parent s.0 symbol.parent_id is.parent);
         decls = rw (decls_after-out changes (adds_symbol parent) s refl) is.decls;
         exports = rw (exports_after-out changes (adds_symbol parent) s refl) is.exports;
         children = rw (children_after-out changes (adds_symbol parent) s refl) is.children;
@@ -358,7 +360,7 @@ module _ (b after : ModuleBuilder) (changes : List Change) (parent : Option Symb
       parents_after-out (changes ++ adds_symbol parent ∷ []) (adds_decl t x) refl,
       parents_after-in changes (adds_symbol parent) parent refl,
       length_push b.symbols.items new,
-      length_push (parents_after changes) parent,
+      length_push (parents_after_changes changes) parent,
     ) (ap (λ n. n + 1) is.count);
     symbols = rw setting_same (λ s d lt. by s d lt (cases_eq s.0 t.0));
     has_no_changes_beyond_count = λ s le. bare_retained (changes ++ adds_symbol parent ∷ []) (adds_decl t x) s (record {
@@ -392,7 +394,7 @@ module _ (b after : ModuleBuilder) (changes : List Change) (parent : Option Symb
         (All-push DoesNotBindOrExportModuleSymbol changes (adds_symbol parent) is.apart tt) tt;
     has_lawful_parents =
         rw (parents_after-out (changes ++ adds_symbol parent ∷ []) (adds_decl t x) refl, parents_after-in changes (adds_symbol parent) parent refl)
-        (λ n q at. parent_of_symbol_made_by n q (cases_lt n (length (parents_after changes))) at);
+        (λ n q at. parent_of_symbol_made_by n q (cases_lt n (length (parents_after_changes changes))) at);
     declared = λ s below. declared_by s (cases_eq s.0 t.0) below;
   }
     where
@@ -411,7 +413,7 @@ module _ (b after : ModuleBuilder) (changes : List Change) (parent : Option Symb
                   refl,
               parent_is,
             )
-                (slice_get-push_last (parents_after changes) parent t.0 (sym is.count ∙ sym number));
+                (slice_get-push_last (parents_after_changes changes) parent t.0 (sym is.count ∙ sym number));
             decls = decls_is ∙ (ap (λ ds. append_decl_with_overload_flag ds x) (sym bare.decls)
                 ∙ sym (decls_after-in (changes ++ adds_symbol parent ∷ []) (adds_decl t x) t x (only_same t x)));
             exports = ap (λ (tables : SymbolMapsView). tables.exports) tables_are
@@ -434,28 +436,29 @@ module _ (b after : ModuleBuilder) (changes : List Change) (parent : Option Symb
           let at : get_or after.symbols.items s.0 d ≡ get_or b.symbols.items s.0 d = rw pushed (get_or_append_left b.symbols.items (new ∷ []) d s.0 short) in
           rw at (retained_twice s (get_or b.symbols.items s.0 d) other (is.symbols s d short))
 
-      parent_of_symbol_made_by : (n : ℕ) (q : Option SymbolId) → (n < length (parents_after changes)) ⊎ (length (parents_after changes) ≤ n)
-          → slice_get (parents_after changes ++ parent ∷ []) n ≡ Some q → IsLawfulParent n q
+      parent_of_symbol_made_by : (n : ℕ) (q : Option SymbolId) → (n < length (parents_after_changes changes)) ⊎ (length (parents_after_changes changes) ≤ n)
+          → slice_get (parents_after_changes changes ++ parent ∷ []) n ≡ Some q → IsLawfulParent n q
       parent_of_symbol_made_by n q (inl lt) at =
-          let read : get_or (parents_after changes) n q ≡ q =
-          sym (get_or_append_left (parents_after changes) (parent ∷ []) q n lt) ∙ get_or_from_slice_get (parents_after changes ++ parent ∷ []) n q q at in
-          is.has_lawful_parents n q (slice_get-get_or (parents_after changes) n q lt ∙ ap Some read)
+          let read : get_or (parents_after_changes changes) n q ≡ q =
+          sym (get_or_append_left (parents_after_changes changes) (parent ∷ []) q n lt) ∙ get_or_from_slice_get (parents_after_changes changes ++ parent ∷ []) n
+          q q at in
+          is.has_lawful_parents n q (slice_get-get_or (parents_after_changes changes) n q lt ∙ ap Some read)
       parent_of_symbol_made_by n q (inr le) at =
-          let within = slice_get_within (parents_after changes ++ parent ∷ []) n q at in
-          let last : length (parents_after changes) ≡ n = omega (arith, within, length_push (parents_after changes) parent) in
+          let within = slice_get_within (parents_after_changes changes ++ parent ∷ []) n q at in
+          let last : length (parents_after_changes changes) ≡ n = omega (arith, within, length_push (parents_after_changes changes) parent) in
           let same : t.0 ≡ n = omega (arith, last, number, is.count) in
-          let read : parent ≡ q = sym (get_or_push (parents_after changes) parent q n last)
-          ∙ get_or_from_slice_get (parents_after changes ++ parent ∷ []) n q q at in
+          let read : parent ≡ q = sym (get_or_push (parents_after_changes changes) parent q n last)
+          ∙ get_or_from_slice_get (parents_after_changes changes ++ parent ∷ []) n q q at in
           let P : ℕ → Type 0 = λ m. IsLawfulParent m q in
           subst P same (subst (IsLawfulParent t.0) read lower)
 
       declared_by : (s : SymbolId) → (s.0 ≡ t.0) ⊎ (s.0 ≢ t.0) → s.0 < length after.symbols.items
-          → 0 < length (decls_after ((changes ++ adds_symbol parent ∷ []) ++ adds_decl t x ∷ []) s)
+          → 0 < length (decls_after_changes ((changes ++ adds_symbol parent ∷ []) ++ adds_decl t x ∷ []) s)
       declared_by s (inl same) below =
-          let P : ℕ → Type 0 = λ m. 0 < length (decls_after ((changes ++ adds_symbol parent ∷ []) ++ adds_decl t x ∷ []) (record { 0 = m })) in
-          let before = decls_after (changes ++ adds_symbol parent ∷ []) t in
+          let P : ℕ → Type 0 = λ m. 0 < length (decls_after_changes ((changes ++ adds_symbol parent ∷ []) ++ adds_decl t x ∷ []) (record { 0 = m })) in
+          let before = decls_after_changes (changes ++ adds_symbol parent ∷ []) t in
           let more = decls_after-in (changes ++ adds_symbol parent ∷ []) (adds_decl t x) t x (only_same t x) in
-          subst P (sym same) (rw more (rw (length-append before ((record x { has_overloads = is_overload_after_decl (last_decl before) x }) ∷ []))
+          subst P (sym same) (rw more (rw (length-append before ((record x { has_overloads = gets_overload_flag_after_decl (last_decl before) x }) ∷ []))
           (omega arith)))
       declared_by s (inr other) below = rw (
         decls_after-out (changes ++ adds_symbol parent ∷ []) (adds_decl t x) s (only_other t s x other),
@@ -465,7 +468,8 @@ module _ (b after : ModuleBuilder) (changes : List Change) (parent : Option Symb
 -- An empty builder has the table of no changes.
 pub empty_table : (b : ModuleBuilder) → b.symbols.items ≡ [] → b.ids.entries ≡ [] → b.child_names.entries ≡ [] → b.member_names.entries ≡ []
     → b.stars.items ≡ [] → HasAppliedChanges b []
-unfolding parents_after decls_after exports_after children_after members_after export_stars_after symbol_of_ident_after_changes
+unfolding parents_after_changes decls_after_changes exports_after_changes children_after_changes members_after_changes export_stars_after_changes
+    symbol_of_ident_after_changes
 empty_table b no_symbols no_ids no_children no_members no_stars = record {
   count = ap length no_symbols;
   symbols = λ s d lt. absurd (omega (arith, lt, ap length no_symbols));

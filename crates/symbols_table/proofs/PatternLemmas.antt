@@ -15,7 +15,7 @@ use Rattle.symbols_ast.specs.declared.tree.kinds.Pat.TheVariants as Pat
 use Rattle.symbols_ast.specs.Nodes.{kind_at, children, child_numbers}
 use Rattle.symbols_ast.specs.NodeRefs.{TreeNode, kind_of, node_in}
 use Rattle.symbols_ast.specs.WellFormed.{IsWellFormedTree}
-use Rattle.symbols_table.specs.Patterns.{pattern_parts, pattern_bindings_below, pattern_bindings_within}
+use Rattle.symbols_table.specs.Patterns.{pattern_parts, pattern_bindings_below, pattern_bindings_within_levels}
 use Rattle.symbols_table.specs.inner.Patterns.{is_identifier_pattern}
 
 -- ---- nodes
@@ -75,28 +75,28 @@ leaves_other inner n (Kind.Pat (Pat.BindingIdent _ _)) is = absurd (let e : ⊥ 
 leaves_other inner n kind is = refl
 
 pub leaves_opened : (tree : Tree) (levels left n : ℕ) (kind : Kind) → levels ≡ suc left → kind_at tree.nodes.items n ≡ Some kind
-    → pattern_bindings_within tree levels n ≡ pattern_bindings_below (pattern_bindings_within tree left) n kind
-unfolding pattern_bindings_within
+    → pattern_bindings_within_levels tree levels n ≡ pattern_bindings_below (pattern_bindings_within_levels tree left) n kind
+unfolding pattern_bindings_within_levels
 leaves_opened tree levels left n kind more is = rw (more, is) refl
 
 pub leaves_at_name : (tree : Tree) (levels n : ℕ) (kind : Kind) → n < length tree.nodes.items → length tree.nodes.items ≤ n + levels
-    → kind_at tree.nodes.items n ≡ Some kind → is_identifier_pattern kind ≡ true → pattern_bindings_within tree levels n ≡ n ∷ []
+    → kind_at tree.nodes.items n ≡ Some kind → is_identifier_pattern kind ≡ true → pattern_bindings_within_levels tree levels n ≡ n ∷ []
 leaves_at_name tree zero n kind inside enough is name = absurd (omega arith)
 leaves_at_name tree (suc levels) n kind inside enough is name =
-    leaves_opened tree (suc levels) levels n kind refl is ∙ leaves_name (pattern_bindings_within tree levels) n kind name
+    leaves_opened tree (suc levels) levels n kind refl is ∙ leaves_name (pattern_bindings_within_levels tree levels) n kind name
 
 pub leaves_at_parts : (tree : Tree) (levels n : ℕ) (kind : Kind) (old new : List ℕ) → n < length tree.nodes.items → length tree.nodes.items ≤ n + levels
     → kind_at tree.nodes.items n ≡ Some kind → is_identifier_pattern kind ≡ false
-    → ((left : ℕ) → length tree.nodes.items ≤ n + suc left → new ≡ old ++ flat_map (pattern_bindings_within tree left) (pattern_parts kind))
-    → new ≡ old ++ pattern_bindings_within tree levels n
+    → ((left : ℕ) → length tree.nodes.items ≤ n + suc left → new ≡ old ++ flat_map (pattern_bindings_within_levels tree left) (pattern_parts kind))
+    → new ≡ old ++ pattern_bindings_within_levels tree levels n
 leaves_at_parts tree zero n kind old new inside enough is name read = absurd (omega arith)
 leaves_at_parts tree (suc levels) n kind old new inside enough is name read =
     read levels enough ∙ ap (λ (xs : List ℕ). old
-    ++ xs) (sym (leaves_opened tree (suc levels) levels n kind refl is ∙ leaves_other (pattern_bindings_within tree levels) n kind name))
+    ++ xs) (sym (leaves_opened tree (suc levels) levels n kind refl is ∙ leaves_other (pattern_bindings_within_levels tree levels) n kind name))
 
 -- A number outside the tree binds nothing.
-pub leaves_outside : (tree : Tree) (levels n : ℕ) → kind_at tree.nodes.items n ≡ None → pattern_bindings_within tree levels n ≡ []
-unfolding pattern_bindings_within
+pub leaves_outside : (tree : Tree) (levels n : ℕ) → kind_at tree.nodes.items n ≡ None → pattern_bindings_within_levels tree levels n ≡ []
+unfolding pattern_bindings_within_levels
 leaves_outside tree zero n is = refl
 leaves_outside tree (suc levels) n is = rw is refl
 

@@ -12,28 +12,28 @@ use Rattle.symbols_table.specs.declared.builder.table.ModuleBuilder.{ModuleBuild
 use Rattle.symbols_table.specs.declared.builder.table.BuildFault.{BuildFault}
 use Rattle.symbols_table.specs.declared.builder.table.BuildFault.TheVariants.{TooManySymbols}
 use Rattle.symbols_table.specs.DeclViews.{Declaration}
-use Rattle.symbols_table.specs.Changes.{Change, adds_symbol, adds_decl, parent_of_symbol_made_by, parents_after}
+use Rattle.symbols_table.specs.Changes.{Change, adds_symbol, adds_decl, parent_of_symbol_made_by, parents_after_changes}
 use Rattle.symbols_table.specs.Events.{DeclarationEvent, EventEffect, new_symbol_effect, next_symbol_id, effect_of_event, changes_of_effects}
 use Rattle.symbols_table.specs.Events.{symbol_of_event_at, effects_after_events}
 use Rattle.symbols_table.specs.inner.Tables.{HasAppliedChanges, AppliesEffectAndReturnsSymbol}
 
 pub length-parents_after-append : (before more : List Change)
-    → length (parents_after (before ++ more)) ≡ length (parents_after before) + length (filter_map parent_of_symbol_made_by more)
-unfolding parents_after
+    → length (parents_after_changes (before ++ more)) ≡ length (parents_after_changes before) + length (filter_map parent_of_symbol_made_by more)
+unfolding parents_after_changes
 length-parents_after-append before more =
     rw (filter_map-append parent_of_symbol_made_by before more)
     (length-append (filter_map parent_of_symbol_made_by before) (filter_map parent_of_symbol_made_by more))
 
 -- At the limit, a row with a new symbol needs more symbols than the limit.
 pub past_limit : (before : List Change) (parent : Option SymbolId) (decl : Declaration) (more : SymbolId → List Change) (limit count : ℕ)
-    → count ≡ length (parents_after before) → limit ≤ count
-    → limit < length (parents_after (before ++ (new_symbol_effect before parent decl more).changes))
+    → count ≡ length (parents_after_changes before) → limit ≤ count
+    → limit < length (parents_after_changes (before ++ (new_symbol_effect before parent decl more).changes))
 past_limit before parent decl more limit count e le = rw (length-parents_after-append before (new_symbol_effect before parent decl more).changes)
     (omega (arith, e, le))
 
 -- A builder with the new symbol has the changes of its row.
 pub new_reads : (b : ModuleBuilder) (before : List Change) (parent : Option SymbolId) (decl : Declaration) (more : SymbolId → List Change) (s : SymbolId)
-    → s.0 ≡ length (parents_after before)
+    → s.0 ≡ length (parents_after_changes before)
     → HasAppliedChanges b (((before ++ adds_symbol parent ∷ []) ++ adds_decl s decl ∷ []) ++ more s)
     → ((new_symbol_effect before parent decl more).symbol ≡ Some s) × HasAppliedChanges b (before ++ (new_symbol_effect before parent decl more).changes)
 new_reads b before parent decl more s number is =
@@ -49,7 +49,7 @@ new_reads b before parent decl more s number is =
 -- A fault that is passed up satisfies the contract of the call.
 pub err_reads : {A : Type 0} (r : Result A BuildFault) (symbol : A
     → Option SymbolId) (limit : ℕ) (new : ModuleBuilder) (before : List Change) (row : EventEffect) (fault : BuildFault) → IsErrAnd r (λ e. e ≡ fault)
-    → (fault ≡ TooManySymbols → limit < length (parents_after (before ++ row.changes))) → AppliesEffectAndReturnsSymbol r symbol limit new before row
+    → (fault ≡ TooManySymbols → limit < length (parents_after_changes (before ++ row.changes))) → AppliesEffectAndReturnsSymbol r symbol limit new before row
 err_reads (Ok x) symbol limit new before row fault h full = absurd h
 err_reads (Err e) symbol limit new before row fault h full = λ is. full (sym h ∙ is)
 
@@ -112,13 +112,13 @@ symbol_at_after rows (e ∷ es) index s at =
 
 -- Events never remove symbols.
 pub parents_after_grow : (rows : List EventEffect) (events : List DeclarationEvent)
-    → length (parents_after (changes_of_effects rows)) ≤ length (parents_after (changes_of_effects (effects_after_events rows events)))
+    → length (parents_after_changes (changes_of_effects rows)) ≤ length (parents_after_changes (changes_of_effects (effects_after_events rows events)))
 unfolding effects_after_events
 parents_after_grow rows [] = omega arith
 parents_after_grow rows (e ∷ es) =
     let row = effect_of_event (changes_of_effects rows) (symbol_of_event_at rows) e in
     let rest = parents_after_grow (rows ++ row ∷ []) es in
-    let here : length (parents_after (changes_of_effects (rows ++ row ∷ []))) ≡ length (parents_after (changes_of_effects rows)) + length
+    let here : length (parents_after_changes (changes_of_effects (rows ++ row ∷ []))) ≡ length (parents_after_changes (changes_of_effects rows)) + length
     (filter_map parent_of_symbol_made_by row.changes) =
     rw (changes_of_effects-push rows row) (length-parents_after-append (changes_of_effects rows) row.changes) in
     omega (arith, rest, here)

@@ -16,7 +16,7 @@ use Rattle.symbols_ast.specs.declared.tree.arena.Id.{Id}
 use Rattle.symbols_ast.specs.Ids.{IdView, id_view, is_same_id}
 use Rattle.symbols_table.specs.ModuleViews.{identifier_bindings_view}
 use Rattle.symbols_table.specs.declared.decl.symbol_decl.SymbolDecl.{SymbolDecl}
-use Rattle.symbols_table.specs.DeclViews.{Declaration, decl_view, exports_view, append_decl_with_overload_flag, last_decl, is_overload_after_decl}
+use Rattle.symbols_table.specs.DeclViews.{Declaration, decl_view, exports_view, append_decl_with_overload_flag, last_decl, gets_overload_flag_after_decl}
 
 -- Setting an export sets it in the view, by the bytes of its name.
 pub exports_view-insert : (name : String Global) (s : SymbolId) (entries : List (String Global × SymbolId))
@@ -40,7 +40,8 @@ lookup-exports_view name (e ∷ es) = ap (λ (o : Option SymbolId). cond (bytes_
 
 -- Pushing a declaration with its overload flag adds it to the view.
 pub pushed_decl : (before after : List SymbolDecl) (decl flagged : SymbolDecl) (flag : Bool) → after ≡ before ++ flagged ∷ []
-    → decl_view flagged ≡ record (decl_view decl) { has_overloads = flag } → flag ≡ is_overload_after_decl (last_decl (map decl_view before)) (decl_view decl)
+    → decl_view flagged ≡ record (decl_view decl) { has_overloads = flag } → flag ≡ gets_overload_flag_after_decl (last_decl (map decl_view before))
+    (decl_view decl)
     → map decl_view after ≡ append_decl_with_overload_flag (map decl_view before) (decl_view decl)
 pushed_decl before after decl flagged flag pushed seen is =
     ap (map decl_view) pushed ∙ map-append decl_view before (flagged ∷ [])

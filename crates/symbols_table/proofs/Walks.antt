@@ -9,12 +9,12 @@ use Rattle.symbols_table.specs.declared.builder.table.ModuleBuilder.{ModuleBuild
 use Rattle.symbols_table.specs.declared.builder.table.BuildFault.{BuildFault}
 use Rattle.symbols_table.specs.declared.builder.table.BuildFault.TheVariants.{TooManySymbols}
 use Rattle.symbols_table.specs.DeclViews.{Declaration}
-use Rattle.symbols_table.specs.Changes.{Change, adds_symbol, adds_decl, parents_after}
+use Rattle.symbols_table.specs.Changes.{Change, adds_symbol, adds_decl, parents_after_changes}
 use Rattle.symbols_table.specs.Events.{DeclarationEvent, EventEffect, begins, new_symbol_effect, effect_of_event, changes_of_effects, symbol_of_event_at}
 use Rattle.symbols_table.specs.Events.{effects_after_events}
 use Rattle.symbols_table.specs.EventsByHolderAndStart.{EventsByHolderAndStart, no_events_by_holder_and_start, events_if_some, events_of_each}
 use Rattle.symbols_table.specs.inner.Tables.{HasAppliedChanges, HasValidTable, AppliesEffects, AppliesEventsUnderHolder}
-use Rattle.symbols_table.specs.inner.ModuleBuilderSteps.{KeepsTableValid}
+use Rattle.symbols_table.specs.inner.ModuleBuilderSteps.{LeavesValidTableWithNoFewerSymbols}
 use Rattle.symbols_table.specs.declared.builder.table.Setting.{Setting}
 use Rattle.symbols_table.proofs.OneChange.{empty_table}
 use Rattle.symbols_table.proofs.Rows.{new_reads, changes_of_effects-push, effects_after_events-step, effects_after_events-nil}
@@ -61,12 +61,12 @@ reads_from (Err fault) limit between new all rest e same is = λ many. rw (same,
 pub err_all : {A : Type 0} (r : Result A BuildFault) (limit : ℕ) (new : ModuleBuilder) (rows : List EventEffect) (event : DeclarationEvent) (row : EventEffect)
     (events : List
     DeclarationEvent) (fault : BuildFault) → effect_of_event (changes_of_effects rows) (symbol_of_event_at rows) event ≡ row → IsErrAnd r (λ e. e ≡ fault)
-    → (fault ≡ TooManySymbols → limit < length (parents_after (changes_of_effects rows ++ row.changes)))
+    → (fault ≡ TooManySymbols → limit < length (parents_after_changes (changes_of_effects rows ++ row.changes)))
     → AppliesEffects r limit new (effects_after_events rows (event ∷ events))
 err_all (Ok x) limit new rows event row events fault is h full = absurd h
 err_all (Err e) limit new rows event row events fault is h full = λ many.
-    let here : limit < length (parents_after (changes_of_effects rows ++ row.changes)) = full (sym h ∙ many) in
-    let there : limit < length (parents_after (changes_of_effects (rows ++ row ∷ []))) = rw (changes_of_effects-push rows row) here in
+    let here : limit < length (parents_after_changes (changes_of_effects rows ++ row.changes)) = full (sym h ∙ many) in
+    let there : limit < length (parents_after_changes (changes_of_effects (rows ++ row ∷ []))) = rw (changes_of_effects-push rows row) here in
     rw (effects_after_events-step rows event events row is) (omega (arith, there, parents_after_grow (rows ++ row ∷ []) events))
 
 -- The events of a concatenated list are those of its parts in order.
@@ -118,7 +118,8 @@ walked_none b holder filled = record { filled = filled; setting = refl; longer =
 
 pub walked_then : {A : Type 0} {begun now : ModuleBuilder} {first : EventsByHolderAndStart} {holder : SymbolId} (w : IsWalked begun now first holder)
     (next : ModuleBuilder) (then : EventsByHolderAndStart) (x : A)
-    → KeepsTableValid (Ok x) now next → AppliesEventsUnderHolder (Ok x) now next then holder → IsWalked begun next (followed_by first then) holder
+    → LeavesValidTableWithNoFewerSymbols (Ok x) now next → AppliesEventsUnderHolder (Ok x) now next then holder → IsWalked begun next (followed_by first then)
+    holder
 walked_then {A} {begun} {now} {first} {holder} w next then x keeps reads = record {
   filled = keeps.filled;
   setting = keeps.setting ∙ w.setting;
@@ -149,7 +150,7 @@ pub walked_fault : (A : Type 0) {B : Type 0} {begun now : ModuleBuilder} {first 
 walked_fault A {B} {begun} {now} {first} {holder} w next new then rest fault (Ok x) h reads rows index is at = absurd h
 walked_fault A {B} {begun} {now} {first} {holder} w next new then rest fault (Err e) h reads rows index is at = λ many.
     let both = followed_by first then in
-    let here : begun.setting.limit < length (parents_after (changes_of_effects (effects_after_events rows (both index (length rows))))) =
+    let here : begun.setting.limit < length (parents_after_changes (changes_of_effects (effects_after_events rows (both index (length rows))))) =
     walked_last {A = A} w (Err fault) next then reads rows index is at (sym h ∙ many) in
     let after = rest index (length rows + length (both index (length rows))) in
     rw (effects_after_events-append rows (both index (length rows)) after)
@@ -176,7 +177,7 @@ each_none b walk holder filled = walked_none b holder filled
 pub each_next : {A : Type 0} {begun now : ModuleBuilder} (walk : ℕ
     → EventsByHolderAndStart) (items : List ℕ) {holder : SymbolId} (w : IsWalked begun now
     (events_of_each walk items) holder) (next : ModuleBuilder) (n : ℕ) (x : A)
-    → KeepsTableValid (Ok x) now next → AppliesEventsUnderHolder (Ok x) now next (walk n) holder
+    → LeavesValidTableWithNoFewerSymbols (Ok x) now next → AppliesEventsUnderHolder (Ok x) now next (walk n) holder
     → IsWalked begun next (events_of_each walk (items ++ n ∷ [])) holder
 each_next {A} {begun} {now} walk items {holder} w next n x keeps reads =
     walked_as (followed_by (events_of_each walk items) (walk n)) (events_of_each walk (items ++ n ∷ [])) (λ h start. each-more walk h start items n)
@@ -208,19 +209,19 @@ pub begun_read : (b0 b1 : ModuleBuilder) (decl : Declaration) (s : SymbolId) →
     → b0.member_names.entries ≡ [] → b0.stars.items ≡ [] → s.0 ≡ length b0.symbols.items
     → ((changes : List Change) → HasAppliedChanges b0 changes → HasAppliedChanges b1 ((changes ++ adds_symbol None ∷ []) ++ adds_decl s decl ∷ []))
     → HasAppliedChanges b1 (changes_of_effects (first_row decl ∷ [])) × (symbol_of_event_at (first_row decl ∷ []) 0 ≡ Some s)
-unfolding changes_of_effects symbol_of_event_at parents_after
+unfolding changes_of_effects symbol_of_event_at parents_after_changes
 begun_read b0 b1 decl s no_symbols no_ids no_children no_members no_stars number made =
     let empty = empty_table b0 no_symbols no_ids no_children no_members no_stars in
     let read = new_reads b1 [] None decl (λ _. []) s (number ∙ ap length no_symbols) (made [] empty) in
     (read.1, read.0)
 
-first_counts : (decl : Declaration) → 1 ≤ length (parents_after (changes_of_effects (first_row decl ∷ [])))
-unfolding changes_of_effects parents_after
+first_counts : (decl : Declaration) → 1 ≤ length (parents_after_changes (changes_of_effects (first_row decl ∷ [])))
+unfolding changes_of_effects parents_after_changes
 first_counts decl = omega arith
 
 -- With limit 0 not even the module's symbol fits.
 pub begun_fault : (decl : Declaration) (events : List DeclarationEvent) (limit count : ℕ) → count ≡ 0 → limit ≤ count
-    → limit < length (parents_after (changes_of_effects (effects_after_events [] (begins decl ∷ events))))
+    → limit < length (parents_after_changes (changes_of_effects (effects_after_events [] (begins decl ∷ events))))
 begun_fault decl events limit count none le =
-    let one : 1 ≤ length (parents_after (changes_of_effects (first_row decl ∷ []))) = first_counts decl in
+    let one : 1 ≤ length (parents_after_changes (changes_of_effects (first_row decl ∷ []))) = first_counts decl in
     rw (first_step decl events) (omega (arith, one, parents_after_grow (first_row decl ∷ []) events))

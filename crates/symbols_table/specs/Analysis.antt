@@ -8,8 +8,8 @@ use Rattle.symbols_ast.specs.Ids.{IdView}
 use Rattle.symbols_table.specs.declared.info.module_info.ModuleInfo.{ModuleInfo}
 use Rattle.symbols_table.specs.declared.info.fault.SymbolsFault.{SymbolsFault}
 use Rattle.symbols_table.specs.declared.info.fault.SymbolsFault.TheVariants as fault
-use Rattle.symbols_table.specs.Changes.{Change, parents_after, export_insertions_after, AreExportsOfInsertions, exports_after, export_stars_after}
-use Rattle.symbols_table.specs.Changes.{symbol_of_ident_after_changes}
+use Rattle.symbols_table.specs.Changes.{Change, parents_after_changes, export_insertions_after_changes, AreExportsOfInsertions, exports_after_changes}
+use Rattle.symbols_table.specs.Changes.{export_stars_after_changes, symbol_of_ident_after_changes}
 use Rattle.symbols_table.specs.Events.{changes_of_events}
 use Rattle.symbols_table.specs.TreeEvents.{tree_events}
 use Rattle.symbols_table.specs.JsonEvents.{json_events}
@@ -30,15 +30,15 @@ table_changes_from_tree_or_json (json_text text) = table_changes_from_json text
 
 -- The number of symbols that the changes make.
 abbrev pub symbol_count : List Change → ℕ
-symbol_count changes = length (parents_after changes)
+symbol_count changes = length (parents_after_changes changes)
 
 -- The table has the contents that the changes give: its symbols with all that their views show, the bindings of identifiers, and the
 -- `export *` statements. The exports have each name once, at the position of its first setting, with the symbol of its last.
 pub record IsTableMadeByChanges (table : SymbolTable) (changes : List Change) : Type 0 where
   pub symbols : (s : SymbolId) → symbol_in_table table s ≡ symbol_after_changes changes s
-  pub exports_of_each_symbol : (s : SymbolId) → AreExportsOfInsertions (export_insertions_after changes s) (exports_after changes s)
+  pub exports_of_each_symbol : (s : SymbolId) → AreExportsOfInsertions (export_insertions_after_changes changes s) (exports_after_changes changes s)
   pub names : (id : IdView) → symbol_of_ident_in_table table id ≡ symbol_of_ident_after_changes changes id
-  pub stars : table.stars ≡ export_stars_after changes
+  pub stars : table.stars ≡ export_stars_after_changes changes
 
 -- The table has this module number and specifier, and the contents that the source's events give.
 pub record IsAnalyzedTable (module_id : ModuleId) (name : List ℕ) (content : AnalyzableSource) (limit : ℕ) (table : SymbolTable) : Type 0 where

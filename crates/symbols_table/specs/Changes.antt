@@ -8,7 +8,7 @@ use Rattle.indexmap.specs.IndexMap.{insert_all}
 use Rattle.symbols_ast.specs.declared.ids.SymbolId.{SymbolId}
 use Rattle.symbols_ast.specs.Ids.{IdView, is_same_id}
 use Rattle.symbols_table.specs.DeclViews.{Declaration, append_decl_with_overload_flag, decl_name, decl_node_satisfies}
-use Rattle.symbols_nodes.specs.NodeTests.{is_function}
+use Rattle.symbols_nodes.specs.NodeTests.{is_function_exported_or_not}
 
 -- An `export * from "specifier"` statement: the number of its node and its specifier.
 pub record ExportStarStatement : Type 0 where
@@ -66,8 +66,8 @@ abbrev pub append_if_absent : List SymbolId → SymbolId → List SymbolId
 append_if_absent xs x = if list_any (is_same_symbol_id x) xs then xs else xs ++ x ∷ []
 
 -- The exports that the changes set for a symbol, in order, repeated names included.
-abbrev pub export_insertions_after : List Change → SymbolId → List (List ℕ × SymbolId)
-export_insertions_after changes s = filter_map (export_inserted_by s) changes
+abbrev pub export_insertions_after_changes : List Change → SymbolId → List (List ℕ × SymbolId)
+export_insertions_after_changes changes s = filter_map (export_inserted_by s) changes
 
 -- Appends a name unless the list has it.
 abbrev pub append_name_if_absent : List (List ℕ) → List ℕ → List (List ℕ)
@@ -89,50 +89,50 @@ pub record AreExportsOfInsertions (settings entries : List (List ℕ × SymbolId
   pub has_no_duplicates : IsDistinct bytes_eq (exported_names_of_entries entries)
 
 -- The parents of the symbols, in order of their numbers. Its length is the number of symbols.
-unfoldable pub parents_after : List Change → List (Option SymbolId)
-parents_after changes = filter_map parent_of_symbol_made_by changes
+unfoldable pub parents_after_changes : List Change → List (Option SymbolId)
+parents_after_changes changes = filter_map parent_of_symbol_made_by changes
 
 -- The declarations of a symbol in order, each with its overload flag.
-unfoldable pub decls_after : List Change → SymbolId → List Declaration
-decls_after changes s = fold append_decl_with_overload_flag [] (filter_map (decl_added_by s) changes)
+unfoldable pub decls_after_changes : List Change → SymbolId → List Declaration
+decls_after_changes changes s = fold append_decl_with_overload_flag [] (filter_map (decl_added_by s) changes)
 
 -- The exports of a symbol, with the settings applied in order. `AreExportsOfInsertions` states the result without the order of steps.
-unfoldable pub exports_after : List Change → SymbolId → List (List ℕ × SymbolId)
-exports_after changes s = insert_all bytes_eq [] (export_insertions_after changes s)
+unfoldable pub exports_after_changes : List Change → SymbolId → List (List ℕ × SymbolId)
+exports_after_changes changes s = insert_all bytes_eq [] (export_insertions_after_changes changes s)
 
 -- The children of a symbol, and its members, each once, in order of first insertion.
-unfoldable pub children_after : List Change → SymbolId → List SymbolId
-children_after changes s = fold append_if_absent [] (filter_map (child_added_by s) changes)
+unfoldable pub children_after_changes : List Change → SymbolId → List SymbolId
+children_after_changes changes s = fold append_if_absent [] (filter_map (child_added_by s) changes)
 
-unfoldable pub members_after : List Change → SymbolId → List SymbolId
-members_after changes s = fold append_if_absent [] (filter_map (member_added_by s) changes)
+unfoldable pub members_after_changes : List Change → SymbolId → List SymbolId
+members_after_changes changes s = fold append_if_absent [] (filter_map (member_added_by s) changes)
 
 -- The symbol that an identifier is bound to: that of its last binding.
 unfoldable pub symbol_of_ident_after_changes : List Change → IdView → Option SymbolId
 symbol_of_ident_after_changes changes id = last_or None (filter_map (symbol_bound_to_ident_by id) changes)
 
 -- The `export *` statements, in order.
-unfoldable pub export_stars_after : List Change → List ExportStarStatement
-export_stars_after changes = filter_map export_star_added_by changes
+unfoldable pub export_stars_after_changes : List Change → List ExportStarStatement
+export_stars_after_changes changes = filter_map export_star_added_by changes
 
 -- The symbol that a symbol exports under a name.
-abbrev pub exported_symbol : List Change → SymbolId → List ℕ → Option SymbolId
-exported_symbol changes s name = lookup (λ key. bytes_eq name key) (exports_after changes s)
+abbrev pub exported_symbol_after_changes : List Change → SymbolId → List ℕ → Option SymbolId
+exported_symbol_after_changes changes s name = lookup (λ key. bytes_eq name key) (exports_after_changes changes s)
 
 -- The local name of a symbol is the name of its first declaration.
-abbrev pub local_name : List Change → SymbolId → Option (List ℕ)
-local_name changes s = option_and_then decl_name (slice_get (decls_after changes s) 0)
+abbrev pub local_name_after_changes : List Change → SymbolId → Option (List ℕ)
+local_name_after_changes changes s = option_and_then decl_name (slice_get (decls_after_changes changes s) 0)
 
 abbrev pub is_symbol_named : List Change → List ℕ → SymbolId → Bool
-is_symbol_named changes name s = option_map_or (λ (local_name_bytes : List ℕ). bytes_eq local_name_bytes name) (local_name changes s) false
+is_symbol_named changes name s = option_map_or (λ (local_name_bytes : List ℕ). bytes_eq local_name_bytes name) (local_name_after_changes changes s) false
 
 -- The first child, and the first member, of a local name.
 abbrev pub first_child_named : List Change → SymbolId → List ℕ → Option SymbolId
-first_child_named changes s name = find (is_symbol_named changes name) (children_after changes s)
+first_child_named changes s name = find (is_symbol_named changes name) (children_after_changes changes s)
 
 abbrev pub first_member_named : List Change → SymbolId → List ℕ → Option SymbolId
-first_member_named changes s name = find (is_symbol_named changes name) (members_after changes s)
+first_member_named changes s name = find (is_symbol_named changes name) (members_after_changes changes s)
 
 -- At least one declaration of the symbol is a function.
 abbrev pub has_function_decl : List Change → SymbolId → Bool
-has_function_decl changes s = list_any (decl_node_satisfies is_function) (decls_after changes s)
+has_function_decl changes s = list_any (decl_node_satisfies is_function_exported_or_not) (decls_after_changes changes s)

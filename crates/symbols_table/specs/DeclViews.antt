@@ -11,8 +11,8 @@ use Rattle.symbols_ast.specs.declared.ids.SymbolId.{SymbolId}
 use Rattle.symbols_ast.specs.Ids.{IdView, id_view}
 use Rattle.symbols_nodes.specs.NodeViews.{SymbolNodeView, symbol_node_view, tree_of_node}
 use Rattle.symbols_nodes.specs.NodeNames.{node_name}
-use Rattle.symbols_nodes.specs.NodeTests.{is_function, has_body, is_method}
-use Rattle.symbols_nodes.specs.NodeNamespaces.{namespaces, value_and_type}
+use Rattle.symbols_nodes.specs.NodeTests.{is_function_exported_or_not, has_body, is_method}
+use Rattle.symbols_nodes.specs.NodeNamespaces.{value_type_namespaces_of_node, value_and_type}
 use Rattle.symbols_table.specs.declared.decl.dep.FileDep.{FileDep}
 use Rattle.symbols_table.specs.declared.decl.dep.FileDepName.{FileDepName}
 use Rattle.symbols_table.specs.declared.decl.symbol_decl.SymbolDeclKind.{SymbolDeclKind}
@@ -90,7 +90,7 @@ decl_name decl = option_and_then node_name (decl_kind_node decl.kind)
 
 -- A declaration is in the namespaces of its node; without a node it is in both.
 abbrev pub value_type_namespaces_of_decl : Declaration → Bool × Bool
-value_type_namespaces_of_decl decl = option_map_or namespaces (decl_kind_node decl.kind) value_and_type
+value_type_namespaces_of_decl decl = option_map_or value_type_namespaces_of_node (decl_kind_node decl.kind) value_and_type
 
 abbrev pub is_definition : DeclKindView → Bool
 is_definition (definition _) = true
@@ -110,13 +110,14 @@ last_decl decls = slice_get decls (length decls - 1)
 
 -- A declaration gets the overload flag if its symbol has an earlier declaration, it has a body, and it is one of these: a function right
 -- after a function; a method that is no getter or setter; a constructor.
-abbrev pub is_overload_after_decl : Option Declaration → Declaration → Bool
-is_overload_after_decl None decl = false
-is_overload_after_decl (Some before) decl = decl_node_satisfies has_body decl
-    && (if decl_node_satisfies is_function decl then decl_node_satisfies is_function before else decl_node_satisfies is_method decl)
+abbrev pub gets_overload_flag_after_decl : Option Declaration → Declaration → Bool
+gets_overload_flag_after_decl None decl = false
+gets_overload_flag_after_decl (Some before) decl = decl_node_satisfies has_body decl
+    && (if decl_node_satisfies is_function_exported_or_not decl then decl_node_satisfies is_function_exported_or_not before
+    else decl_node_satisfies is_method decl)
 
 abbrev pub append_decl_with_overload_flag : List Declaration → Declaration → List Declaration
-append_decl_with_overload_flag decls decl = decls ++ (record decl { has_overloads = is_overload_after_decl (last_decl decls) decl }) ∷ []
+append_decl_with_overload_flag decls decl = decls ++ (record decl { has_overloads = gets_overload_flag_after_decl (last_decl decls) decl }) ∷ []
 
 -- The exports of a symbol, with names as bytes.
 abbrev pub exports_view : List (String Global × SymbolId) → List (List ℕ × SymbolId)

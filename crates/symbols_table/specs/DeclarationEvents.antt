@@ -6,7 +6,7 @@ use Rattle.symbols_ast.specs.declared.tree.arena.SourceRange.{SourceRange}
 use Rattle.symbols_ast.specs.declared.tree.kinds.Kind.{Kind}
 use Rattle.symbols_ast.specs.declared.tree.kinds.Decl.TheVariants as Decl
 use Rattle.symbols_ast.specs.NodeRefs.{TreeNode, kind_of, node_in, child_in_field, child_list_in_field}
-use Rattle.symbols_ast.specs.ChildFields.{decls_of, id_of, ident_of, name_of}
+use Rattle.symbols_ast.specs.ChildFields.{decl_children_of, id_child_of, ident_child_of, name_child_of}
 use Rattle.symbols_ast.specs.Ids.{IdView, id_view, ident_id}
 use Rattle.symbols_nodes.specs.NodeViews.{SymbolNodeView, ExportDeclView, export_decl, class_decl, fn_decl, ts_enum, ts_interface}
 use Rattle.symbols_nodes.specs.NodeViews.{ts_namespace, ts_type_alias, var, using_var, exported_class, exported_fn, exported_ts_enum}
@@ -18,7 +18,7 @@ use Rattle.symbols_table.specs.EventsByHolderAndStart.{EventsByHolderAndStart, n
 use Rattle.symbols_table.specs.EventsByHolderAndStart.{events_of_each, range_or_empty}
 use Rattle.symbols_table.specs.EventsByHolderAndStart.{id_of_ident_child}
 use Rattle.symbols_table.specs.Patterns.{pattern_bindings}
-use Rattle.symbols_table.specs.MemberEvents.{member_events_at, member_nodes}
+use Rattle.symbols_table.specs.MemberEvents.{member_events_at, class_or_interface_member_numbers}
 
 -- The form of a declaration without `export`.
 abbrev pub unexported_node_view : ExportDeclView → SymbolNodeView
@@ -80,14 +80,14 @@ binding_events_at vars declarator n = events_if_some (node_in vars.decl.tree (So
 
 -- The events of a declarator: each identifier that its pattern binds, in order.
 abbrev pub declarator_events : VariableStatement → TreeNode → EventsByHolderAndStart
-declarator_events vars declarator = events_if_some (child_in_field declarator name_of)
+declarator_events vars declarator = events_if_some (child_in_field declarator name_child_of)
     (λ (pattern : TreeNode). events_of_each (binding_events_at vars declarator) (pattern_bindings vars.decl.tree pattern.number))
 
 abbrev pub declarator_events_at : VariableStatement → ℕ → EventsByHolderAndStart
 declarator_events_at vars n = events_if_some (node_in vars.decl.tree (Some n)) (declarator_events vars)
 
 abbrev pub variable_statement_events : VariableStatement → EventsByHolderAndStart
-variable_statement_events vars = events_of_each (declarator_events_at vars) (child_list_in_field vars.decl decls_of)
+variable_statement_events vars = events_of_each (declarator_events_at vars) (child_list_in_field vars.decl decl_children_of)
 
 -- ---- declarations with an identifier
 
@@ -101,7 +101,7 @@ export_decl_view_of_kind node _ = None
 
 -- The identifier of a declaration, which is in one of two fields.
 abbrev pub declared_name : TreeNode → Option Id
-declared_name node = option_or (id_of_ident_child ident_of node) (id_of_ident_child id_of node)
+declared_name node = option_or (id_of_ident_child ident_child_of node) (id_of_ident_child id_child_of node)
 
 -- The identifier is declared at the range of the whole statement, with its members.
 abbrev pub named_decl_events : Scope → Option TreeNode → TreeNode → ExportDeclView → EventsByHolderAndStart
@@ -109,7 +109,7 @@ named_decl_events scope exported node form =
     events_if_some (declared_name node)
     (λ (id : Id). declare_and_add_events (is_exported scope exported) (id_view id)
     (definition_of_node (maybe_exported_node exported form) (export_or_decl_range exported node))
-    (events_of_each (member_events_at node.tree) (member_nodes node)))
+    (events_of_each (member_events_at node.tree) (class_or_interface_member_numbers node)))
 
 -- The events of a declaration, with the `export` before it, if any.
 abbrev pub declaration_events : Scope → Option TreeNode → TreeNode → Kind → EventsByHolderAndStart

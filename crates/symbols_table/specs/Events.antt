@@ -6,7 +6,8 @@ use Rattle.symbols_ast.specs.declared.ids.SymbolId.{SymbolId}
 use Rattle.symbols_ast.specs.Ids.{IdView}
 use Rattle.symbols_table.specs.DeclViews.{Declaration, decl_name, is_definition}
 use Rattle.symbols_table.specs.Changes.{Change, ExportStarStatement, adds_symbol, adds_decl, exports, adds_child, adds_member, maps, re_exports_all}
-use Rattle.symbols_table.specs.Changes.{parents_after, symbol_of_ident_after_changes, exported_symbol, first_child_named, first_member_named, has_function_decl}
+use Rattle.symbols_table.specs.Changes.{parents_after_changes, symbol_of_ident_after_changes, exported_symbol_after_changes, first_child_named}
+use Rattle.symbols_table.specs.Changes.{first_member_named, has_function_decl}
 
 -- A declaration step of the table's builder, like 'declare this identifier' or 'export that symbol'. Numbers are positions of earlier
 -- events, by which an event refers to their symbols: first its holder's, then, for `binds`, `export` and `child`, the symbol's own.
@@ -40,7 +41,7 @@ effect_yielding_symbol s changes = record { symbol = Some s; changes = changes }
 
 -- The number of the next new symbol is the count of the symbols before it.
 abbrev pub next_symbol_id : List Change → SymbolId
-next_symbol_id before = record { 0 = length (parents_after before) }
+next_symbol_id before = record { 0 = length (parents_after_changes before) }
 
 -- The effect that adds a new symbol with its first declaration, and further changes.
 abbrev pub new_symbol_effect : List Change → Option SymbolId → Declaration → (SymbolId → List Change) → EventEffect
@@ -62,8 +63,8 @@ abbrev pub effect_of_existing_symbol_or : Option SymbolId → EventEffect → Ev
 effect_of_existing_symbol_or None row = row
 effect_of_existing_symbol_or (Some s) row = effect_yielding_symbol s []
 
-abbrev pub declare_alias_effect : List Change → SymbolId → IdView → Declaration → EventEffect
-declare_alias_effect before holder id decl =
+abbrev pub declare_alias_unless_bound_effect : List Change → SymbolId → IdView → Declaration → EventEffect
+declare_alias_unless_bound_effect before holder id decl =
     effect_of_existing_symbol_or (symbol_of_ident_after_changes before id) (new_symbol_effect before (Some holder) decl (λ s. maps id s ∷ []))
 
 -- The exported name of a default export.
@@ -73,7 +74,7 @@ default_export_name = codes "default"
 -- A default export: the holder's export `default` gets the declaration, else a new symbol, which is a child only if it is a definition.
 abbrev pub default_export_effect : List Change → SymbolId → Declaration → EventEffect
 default_export_effect before holder decl =
-    effect_of_redeclaring_or (exported_symbol before holder default_export_name) decl
+    effect_of_redeclaring_or (exported_symbol_after_changes before holder default_export_name) decl
     (new_symbol_effect before (Some holder) decl (λ s. exports holder default_export_name s
     ∷ (if is_definition decl.kind then adds_child holder s ∷ [] else [])))
 
@@ -81,7 +82,7 @@ default_export_effect before holder decl =
 -- For an instance member it is the first member of that local name. A member without a name has none.
 abbrev pub find_member_symbol : List Change → SymbolId → Bool → Option (List ℕ) → Option SymbolId
 find_member_symbol before holder is_static None = None
-find_member_symbol before holder true (Some name) = option_or (exported_symbol before holder name) (first_child_named before holder name)
+find_member_symbol before holder true (Some name) = option_or (exported_symbol_after_changes before holder name) (first_child_named before holder name)
 find_member_symbol before holder false (Some name) = first_member_named before holder name
 
 -- The changes that add a new member to its holder: a static one is an export by its name and a child, an instance one a member.
@@ -113,7 +114,7 @@ effect_if_symbol (Some s) row = row s
 abbrev pub effect_of_event : List Change → (ℕ → Option SymbolId) → DeclarationEvent → EventEffect
 effect_of_event before at (begins decl) = new_symbol_effect before None decl (λ _. [])
 effect_of_event before at (declare holder id decl) = effect_if_symbol (at holder) (λ h. declare_effect before h id decl)
-effect_of_event before at (declare_alias holder id decl) = effect_if_symbol (at holder) (λ h. declare_alias_effect before h id decl)
+effect_of_event before at (declare_alias holder id decl) = effect_if_symbol (at holder) (λ h. declare_alias_unless_bound_effect before h id decl)
 effect_of_event before at (declare_unnamed holder decl) = effect_if_symbol (at holder) (λ h. new_symbol_effect before (Some h) decl (λ _. []))
 effect_of_event before at (default holder decl) = effect_if_symbol (at holder) (λ h. default_export_effect before h decl)
 effect_of_event before at (binds id of) = effect_if_symbol (at of) (λ s. effect_yielding_symbol s (maps id s ∷ []))

@@ -6,7 +6,7 @@ use Rattle.symbols_ast.specs.declared.tree.kinds.Kind.{Kind}
 use Rattle.symbols_ast.specs.declared.tree.kinds.Decl.TheVariants as Decl
 use Rattle.symbols_ast.specs.declared.tree.kinds.Member.TheVariants as Member
 use Rattle.symbols_ast.specs.NodeRefs.{TreeNode, kind_of, node_in, child_in_field, child_list_in_field}
-use Rattle.symbols_ast.specs.ChildFields.{body_of, class_of}
+use Rattle.symbols_ast.specs.ChildFields.{body_children_of, class_child_of}
 use Rattle.symbols_nodes.specs.NodeViews.{SymbolNodeView, class_method, class_prop, auto_accessor, class_param_prop, constructor}
 use Rattle.symbols_nodes.specs.NodeViews.{ts_index_signature, ts_call_signature_decl, ts_construct_signature_decl}
 use Rattle.symbols_nodes.specs.NodeViews.{ts_property_signature, ts_getter_signature, ts_setter_signature, ts_method_signature}
@@ -15,13 +15,14 @@ use Rattle.symbols_table.specs.Events.{member}
 use Rattle.symbols_table.specs.EventsByHolderAndStart.{EventsByHolderAndStart, no_events_by_holder_and_start, events_if_some, events_followed_by}
 use Rattle.symbols_table.specs.EventsByHolderAndStart.{events_of_each, range_or_empty}
 
-abbrev pub class_or_interface_member_nodes : TreeNode → Kind → List ℕ
-class_or_interface_member_nodes node (Kind.Decl (Decl.TsInterfaceDecl _ _ _ _)) = child_list_in_field node body_of
-class_or_interface_member_nodes node _ = option_map_or (λ (class : TreeNode). child_list_in_field class body_of) (child_in_field node class_of) []
+abbrev pub class_or_interface_members_by_kind : TreeNode → Kind → List ℕ
+class_or_interface_members_by_kind node (Kind.Decl (Decl.TsInterfaceDecl _ _ _ _)) = child_list_in_field node body_children_of
+class_or_interface_members_by_kind node _ = option_map_or (λ (class : TreeNode). child_list_in_field class body_children_of)
+    (child_in_field node class_child_of) []
 
 -- The member nodes of a class or an interface; empty for any other node.
-abbrev pub member_nodes : TreeNode → List ℕ
-member_nodes node = option_map_or (class_or_interface_member_nodes node) (kind_of node) []
+abbrev pub class_or_interface_member_numbers : TreeNode → List ℕ
+class_or_interface_member_numbers node = option_map_or (class_or_interface_members_by_kind node) (kind_of node) []
 
 -- The event of a member, at the range of its node.
 abbrev pub member_event : SymbolNodeView → TreeNode → Bool → EventsByHolderAndStart

@@ -8,7 +8,7 @@ use Rattle.symbols_ast.specs.declared.tree.kinds.Kind.{Kind}
 use Rattle.symbols_ast.specs.declared.tree.kinds.Item.TheVariants as Item
 use Rattle.symbols_ast.specs.declared.tree.kinds.Expr.TheVariants as Expr
 use Rattle.symbols_ast.specs.NodeRefs.{TreeNode, kind_of, node_in, child_in_field}
-use Rattle.symbols_ast.specs.ChildFields.{local_of, orig_of, expr_of, decl_of, id_of}
+use Rattle.symbols_ast.specs.ChildFields.{local_child_of, orig_child_of, expr_child_of, decl_child_of, id_child_of}
 use Rattle.symbols_ast.specs.Ids.{id_view, ident_id}
 use Rattle.symbols_nodes.specs.DottedNames.{DottedName, entity_name}
 use Rattle.symbols_nodes.specs.Expando.{Expando, expando_of_assignment}
@@ -19,7 +19,7 @@ use Rattle.symbols_table.specs.Events.{DeclarationEvent, declare, declare_alias,
 use Rattle.symbols_table.specs.EventsByHolderAndStart.{EventsByHolderAndStart, no_events_by_holder_and_start, events_if_some, events_followed_by}
 use Rattle.symbols_table.specs.EventsByHolderAndStart.{events_of_each, range_or_empty}
 use Rattle.symbols_table.specs.EventsByHolderAndStart.{id_of_ident_child}
-use Rattle.symbols_table.specs.MemberEvents.{member_events_at, member_nodes}
+use Rattle.symbols_table.specs.MemberEvents.{member_events_at, class_or_interface_member_numbers}
 use Rattle.symbols_table.specs.DeclarationEvents.{declared_name, export_event_if}
 
 -- ---- import { a as b }, c, * as d from "src"
@@ -38,7 +38,7 @@ import_decl_events src node id name holder start = declare holder (id_view id) (
 
 abbrev pub import_specifier_events : List ℕ → TreeNode → Kind → EventsByHolderAndStart
 import_specifier_events src node kind =
-    events_if_some (id_of_ident_child local_of node) (λ (id : Id). events_if_some (import_dep_name id kind) (import_decl_events src node id))
+    events_if_some (id_of_ident_child local_child_of node) (λ (id : Id). events_if_some (import_dep_name id kind) (import_decl_events src node id))
 
 abbrev pub import_specifier_events_at : List ℕ → Tree → ℕ → EventsByHolderAndStart
 import_specifier_events_at src tree n =
@@ -69,7 +69,7 @@ export_named_specifier_events src node exported orig =
 
 abbrev pub export_named_specifier_events_at : Option (List ℕ) → TreeNode → Option (List ℕ) → EventsByHolderAndStart
 export_named_specifier_events_at src node exported =
-    events_if_some (option_and_then kind_of (child_in_field node orig_of)) (export_named_specifier_events src node exported)
+    events_if_some (option_and_then kind_of (child_in_field node orig_child_of)) (export_named_specifier_events src node exported)
 
 abbrev pub export_specifier_events : Option (List ℕ) → TreeNode → Kind → EventsByHolderAndStart
 export_specifier_events src node (Kind.Item (Item.ExportSpecifier _ exported)) = export_named_specifier_events_at src node (option_map string_bytes exported)
@@ -91,7 +91,8 @@ bind_events_if (Some id) of = binds (id_view id) of ∷ []
 abbrev pub default_decl_events : TreeNode → TreeNode → EventsByHolderAndStart
 default_decl_events node decl holder start =
     events_followed_by (default holder (definition_of_node (export_default_decl node) (range_or_empty node)) ∷ [])
-    (events_followed_by (bind_events_if (declared_name decl) start) (events_of_each (member_events_at decl.tree) (member_nodes decl) start)) start
+    (events_followed_by (bind_events_if (declared_name decl) start)
+    (events_of_each (member_events_at decl.tree) (class_or_interface_member_numbers decl) start)) start
 
 abbrev pub default_export_events : Declaration → EventsByHolderAndStart
 default_export_events decl holder start = default holder decl ∷ []
@@ -105,9 +106,9 @@ abbrev pub default_expr_decl : TreeNode → TreeNode → Kind → Declaration
 default_expr_decl node expr (Kind.Expr (Expr.Ident id)) = alias_decl_of_ident expr id
 default_expr_decl node expr _ = definition_of_node (export_default_expr node) (range_or_empty node)
 
-abbrev pub export_assignment_events : TreeNode → Kind → EventsByHolderAndStart
-export_assignment_events expr (Kind.Expr (Expr.Ident id)) = default_export_events (alias_decl_of_ident expr id)
-export_assignment_events expr _ = no_events_by_holder_and_start
+abbrev pub export_assignment_of_ident_events : TreeNode → Kind → EventsByHolderAndStart
+export_assignment_of_ident_events expr (Kind.Expr (Expr.Ident id)) = default_export_events (alias_decl_of_ident expr id)
+export_assignment_of_ident_events expr _ = no_events_by_holder_and_start
 
 -- ---- import a = b.c, import a = require("src")
 
@@ -123,7 +124,7 @@ import_equals_alias_events node is_export id kind holder start =
 
 abbrev pub import_equals_events : TreeNode → Bool → Option ℕ → Option (String Global) → EventsByHolderAndStart
 import_equals_events node is_export entity external =
-    events_if_some (id_of_ident_child id_of node)
+    events_if_some (id_of_ident_child id_child_of node)
     (λ (id : Id). events_if_some (import_equals_decl_kind node entity external) (import_equals_alias_events node is_export id))
 
 -- ---- f.p = ..
@@ -145,13 +146,13 @@ import_export_or_expando_events node (Kind.Item (Item.Import specifiers src)) =
     events_of_each (import_specifier_events_at (string_bytes src) node.tree) specifiers.items
 import_export_or_expando_events node (Kind.Item (Item.ExportNamed specifiers src)) =
     events_of_each (export_specifier_events_at (option_map string_bytes src) node.tree) specifiers.items
-import_export_or_expando_events node (Kind.Item (Item.ExportDefaultDecl _)) = events_if_some (child_in_field node decl_of) (default_decl_events node)
+import_export_or_expando_events node (Kind.Item (Item.ExportDefaultDecl _)) = events_if_some (child_in_field node decl_child_of) (default_decl_events node)
 import_export_or_expando_events node (Kind.Item (Item.ExportDefaultExpr _)) =
-    events_if_some (child_in_field node expr_of)
+    events_if_some (child_in_field node expr_child_of)
     (λ (expr : TreeNode). events_if_some (kind_of expr) (λ (kind : Kind). default_export_events (default_expr_decl node expr kind)))
 import_export_or_expando_events node (Kind.Item (Item.TsExportAssignment _)) =
-    events_if_some (child_in_field node expr_of) (λ (expr : TreeNode). events_if_some (kind_of expr) (export_assignment_events expr))
+    events_if_some (child_in_field node expr_child_of) (λ (expr : TreeNode). events_if_some (kind_of expr) (export_assignment_of_ident_events expr))
 import_export_or_expando_events node (Kind.Item (Item.ExportAll src)) = export_star_events node (string_bytes src)
 import_export_or_expando_events node (Kind.Item (Item.TsImportEqualsDecl is_export _ entity external)) = import_equals_events node is_export entity external
-import_export_or_expando_events node (Kind.Item (Item.ExprStmt _)) = events_if_some (child_in_field node expr_of) expando_events
+import_export_or_expando_events node (Kind.Item (Item.ExprStmt _)) = events_if_some (child_in_field node expr_child_of) expando_events
 import_export_or_expando_events node _ = no_events_by_holder_and_start

@@ -22,10 +22,11 @@ pattern_bindings_below inner n (Kind.Pat (Pat.BindingIdent _ _)) = n ∷ []
 pattern_bindings_below inner n kind = flat_map inner (pattern_parts kind)
 
 -- The identifiers that pattern n binds, in order, down to a number of levels.
-unfoldable pub pattern_bindings_within : Tree → ℕ → ℕ → List ℕ
-pattern_bindings_within tree zero n = []
-pattern_bindings_within tree (suc levels) n = option_map_or (pattern_bindings_below (pattern_bindings_within tree levels) n) (kind_at tree.nodes.items n) []
+unfoldable pub pattern_bindings_within_levels : Tree → ℕ → ℕ → List ℕ
+pattern_bindings_within_levels tree zero n = []
+pattern_bindings_within_levels tree (suc levels) n = option_map_or (pattern_bindings_below (pattern_bindings_within_levels tree levels) n)
+    (kind_at tree.nodes.items n) []
 
 -- All identifiers that pattern n binds: no path down the tree has more levels than the tree has nodes.
 abbrev pub pattern_bindings : Tree → ℕ → List ℕ
-pattern_bindings tree n = pattern_bindings_within tree (length tree.nodes.items) n
+pattern_bindings tree n = pattern_bindings_within_levels tree (length tree.nodes.items) n

@@ -5,7 +5,8 @@ use Rattle.symbols_ast.specs.declared.ids.SymbolId.{SymbolId}
 use Rattle.symbols_nodes.specs.NodeViews.{SymbolNodeView}
 use Rattle.symbols_table.specs.declared.decl.symbol.Symbol.{Symbol}
 use Rattle.symbols_table.specs.DeclViews.{Declaration, decl_view, decl_name, decl_kind_node}
-use Rattle.symbols_table.specs.Changes.{Change, parents_after, decls_after, exports_after, children_after, members_after}
+use Rattle.symbols_table.specs.Changes.{Change, parents_after_changes, decls_after_changes, exports_after_changes, children_after_changes}
+use Rattle.symbols_table.specs.Changes.{members_after_changes}
 
 pub record SymbolView : Type 0 where
   pub number : SymbolId
@@ -45,15 +46,15 @@ abbrev pub symbol_from_changes : List Change → SymbolId → Option SymbolId �
 symbol_from_changes changes s parent = record {
   number = s;
   parent = parent;
-  decls = decls_after changes s;
-  exports = exports_after changes s;
-  children = children_after changes s;
-  members = members_after changes s;
+  decls = decls_after_changes changes s;
+  exports = exports_after_changes changes s;
+  children = children_after_changes changes s;
+  members = members_after_changes changes s;
 }
 
 -- The symbol of a number after the changes, if they make it.
 abbrev pub symbol_after_changes : List Change → SymbolId → Option SymbolView
-symbol_after_changes changes s = option_map (symbol_from_changes changes s) (slice_get (parents_after changes) s.0)
+symbol_after_changes changes s = option_map (symbol_from_changes changes s) (slice_get (parents_after_changes changes) s.0)
 
 -- The symbol of a number in a list of symbols.
 abbrev pub symbol_view_of_number : List Symbol → SymbolId → Option SymbolView

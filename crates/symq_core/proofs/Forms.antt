@@ -3,8 +3,8 @@ use Rattle.std.proofs.Common.{◌≡◌, ◌<◌, List, [], ◌∷◌, length, N
 use Rattle.json.specs.declared.value.Value.{Value}
 use Rattle.symq_reader.specs.JsonData.{items_data}
 use Rattle.symq_core.specs.ReferenceForms.{read_id_reference, read_qualified_reference, read_import_reference, keyword_and_items}
-use Rattle.symq_core.specs.Queries.{two_strings_and_items, second_after_inputs, read_module_question, read_exports_question, read_names_question}
-use Rattle.symq_core.specs.Queries.{read_symbol_question, read_single_symbol_id, read_deps_question, read_resolve_question}
+use Rattle.symq_core.specs.Queries.{two_strings_and_items, second_after_inputs, read_module_question, read_exports_question, read_public_names_question}
+use Rattle.symq_core.specs.Queries.{read_symbol_of_ident_question, read_single_symbol_id, read_deps_question, read_resolve_question}
 
 pub two_short : {A : Type 0} (values : List (Value A)) → length values < 2 → two_strings_and_items (items_data values) ≡ None
 two_short [] h = refl
@@ -19,16 +19,16 @@ pub exports_long : {A : Type 0} (values : List (Value A)) → 0 < length values 
 exports_long [] h = absurd (omega arith)
 exports_long (a ∷ values) h = refl
 
-pub names_long : {A : Type 0} (values : List (Value A)) → 0 < length values → read_names_question (items_data values) ≡ None
+pub names_long : {A : Type 0} (values : List (Value A)) → 0 < length values → read_public_names_question (items_data values) ≡ None
 names_long [] h = absurd (omega arith)
 names_long (a ∷ values) h = refl
 
-pub symbol_short : {A : Type 0} (values : List (Value A)) → length values < 2 → read_symbol_question (items_data values) ≡ None
+pub symbol_short : {A : Type 0} (values : List (Value A)) → length values < 2 → read_symbol_of_ident_question (items_data values) ≡ None
 symbol_short [] h = refl
 symbol_short (a ∷ []) h = refl
 symbol_short (a ∷ b ∷ values) h = absurd (omega arith)
 
-pub symbol_long : {A : Type 0} (values : List (Value A)) → 2 < length values → read_symbol_question (items_data values) ≡ None
+pub symbol_long : {A : Type 0} (values : List (Value A)) → 2 < length values → read_symbol_of_ident_question (items_data values) ≡ None
 symbol_long [] h = refl
 symbol_long (a ∷ []) h = refl
 symbol_long (a ∷ b ∷ []) h = absurd (omega arith)

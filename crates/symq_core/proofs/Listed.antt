@@ -10,8 +10,8 @@ use Rattle.symq_reader.specs.UnderKeys.{read_each_item, as_u32, some_if_u32}
 use Rattle.symq_core.specs.ReferenceForms.{read_id, read_string_list, read_id_reference, read_qualified_reference, read_import_reference, reference_readers}
 use Rattle.symq_core.specs.ReferenceForms.{reference_by_keyword, reference_of_json}
 use Rattle.symbols_answers.specs.Questions.{QueryView, inputs_query}
-use Rattle.symq_core.specs.Queries.{read_module_question, read_exports_question, read_names_question, read_symbol_question, read_single_symbol_id}
-use Rattle.symq_core.specs.Queries.{read_deps_question, read_resolve_question, question_readers, question_by_keyword, query_of_json}
+use Rattle.symq_core.specs.Queries.{read_module_question, read_exports_question, read_public_names_question, read_symbol_of_ident_question}
+use Rattle.symq_core.specs.Queries.{read_single_symbol_id, read_deps_question, read_resolve_question, question_readers, question_by_keyword, query_of_json}
 use Rattle.symq_core.specs.Queries.{query_by_keyword, keyword_specifier_and_items, inputs_query_of_data}
 
 -- a string consists of lists, strings and whole numbers, so a value that doesn't is no string
@@ -65,7 +65,7 @@ exports_has : (ds : Items) → items_have_no_object_and_whole_numbers ds ≡ fal
 exports_has no_items e = absurd (cc)
 exports_has (item d ds) e = refl
 
-names_has : (ds : Items) → items_have_no_object_and_whole_numbers ds ≡ false → read_names_question ds ≡ None
+names_has : (ds : Items) → items_have_no_object_and_whole_numbers ds ≡ false → read_public_names_question ds ≡ None
 names_has no_items e = absurd (cc)
 names_has (item d ds) e = refl
 
@@ -73,7 +73,7 @@ id_has : (name scope : Data) → (has_no_object_and_whole_numbers name ≡ false
 id_has name scope (inl e) = rw (text_has name e) refl
 id_has name scope (inr e) = and_none (as_str name) _ (λ n. rw (number_has scope e) refl)
 
-symbol_has : (ds : Items) → items_have_no_object_and_whole_numbers ds ≡ false → read_symbol_question ds ≡ None
+symbol_has : (ds : Items) → items_have_no_object_and_whole_numbers ds ≡ false → read_symbol_of_ident_question ds ≡ None
 symbol_has no_items e = refl
 symbol_has (item name no_items) e = refl
 symbol_has (item name (item scope no_items)) e = rw (id_has name scope (either (has_no_object_and_whole_numbers name) (has_no_object_and_whole_numbers scope)

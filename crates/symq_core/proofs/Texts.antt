@@ -9,8 +9,8 @@ use Rattle.serde_json.proofs.Texts.{print-outline}
 use Rattle.symq_core.specs.inner.JsonWriting.{AppendsTokens, tokens_of, remaining_member_tokens, star_member_tokens, found_member_tokens}
 use Rattle.symbols_table.specs.DeclViews.{FileDepView}
 use Rattle.symbols_answers.specs.Inputs.{FoundView, found_module, found_redirect, found_absent}
-use Rattle.symq_core.specs.AnswerData.{with_found_members}
-use Rattle.symq_core.specs.PathData.{with_star_member}
+use Rattle.symq_core.specs.AnswerData.{members_with_found}
+use Rattle.symq_core.specs.PathData.{members_with_star}
 
 -- a write that succeeded has appended its token
 pub written : {E : Type 0} {done : Unit {0}} {old new : Written} {t : Token} → Writes {E = E} (Ok done) old new t → AppendsTokens old new (t ∷ [])
@@ -27,13 +27,13 @@ text_after fresh done bytes value begun none answered =
 
 -- the members after the member `star`
 pub star_before : (star : Option FileDepView) (rest : Members) → star_member_tokens star
-    ++ remaining_member_tokens rest ≡ remaining_member_tokens (with_star_member star rest)
+    ++ remaining_member_tokens rest ≡ remaining_member_tokens (members_with_star star rest)
 star_before None rest = refl
 star_before (Some dep) rest = refl
 
 -- the members after those for what the graph has under a specifier
 pub found_before : (found : FoundView) (rest : Members) → found_member_tokens found
-    ++ remaining_member_tokens rest ≡ remaining_member_tokens (with_found_members found rest)
+    ++ remaining_member_tokens rest ≡ remaining_member_tokens (members_with_found found rest)
 found_before found_module rest = refl
 found_before (found_redirect specifier) rest = refl
 found_before found_absent rest = refl

@@ -8,7 +8,7 @@ use Rattle.symbols_nodes.specs.declared.deps.dep.ReferenceNamespace.{ReferenceNa
 use Rattle.symbols_nodes.specs.declared.deps.dep.ReferenceNamespace.TheVariants as In
 use Rattle.symbols_nodes.specs.References.{SymbolReference, id, qualified_id, import_type, NamespacedReference}
 use Rattle.symbols_root.specs.declared.rules.Rules.{Rules}
-use Rattle.symbols_exports.specs.PublicNames.{PublicNameView}
+use Rattle.symbols_exports.specs.PublicNames.{ExportedNameWithMember}
 use Rattle.symbols_exports.specs.SharedNames.{NameWithExporters}
 use Rattle.symbols_exports.specs.ExportViews.{ExportView, StarStatementView}
 use Rattle.symbols_answers.specs.Questions.{QueryView}
@@ -51,17 +51,17 @@ shared_name_json shared = object (member (codes "name") (string shared.name)
     (member (codes "owners") (array (items_of (map exporter_json shared.exporters))) no_members))
 
 -- the members, with the member of the shared names before them if there is one
-abbrev pub with_shared_member : Option (List (NameWithExporters ExportView)) → Members → Members
-with_shared_member None rest = rest
-with_shared_member (Some shared) rest = member (codes "shared") (array (items_of (map shared_name_json shared))) rest
+abbrev pub members_with_shared : Option (List (NameWithExporters ExportView)) → Members → Members
+members_with_shared None rest = rest
+members_with_shared (Some shared) rest = member (codes "shared") (array (items_of (map shared_name_json shared))) rest
 
 -- the item for the member after the exported name, if there is one
 abbrev pub items_of_optional_member_name : Option (List ℕ) → Items
 items_of_optional_member_name None = no_items
 items_of_optional_member_name (Some name) = item (string name) no_items
 
-abbrev pub public_name_json : PublicNameView → Data
-public_name_json public = array (item (string public.name) (items_of_optional_member_name public.member))
+abbrev pub name_with_member_json : ExportedNameWithMember → Data
+name_with_member_json public = array (item (string public.name) (items_of_optional_member_name public.member))
 
 abbrev pub symbol_number_json : Option SymbolId → Data
 symbol_number_json None = null
@@ -93,22 +93,22 @@ abbrev pub references_of_decl_json : List NamespacedReference → Data
 references_of_decl_json dependencies = array (items_of (map namespaced_reference_json dependencies))
 
 -- the members for what the graph has under a specifier, with those after them; `module` is the one that the specifier redirects to
-abbrev pub with_found_members : FoundView → Members → Members
-with_found_members found_module rest = member (codes "found") (string (codes "module")) rest
-with_found_members (found_redirect specifier) rest = member (codes "found") (string (codes "redirect")) (member (codes "module") (string specifier) rest)
-with_found_members found_absent rest = member (codes "found") (string (codes "absent")) rest
+abbrev pub members_with_found : FoundView → Members → Members
+members_with_found found_module rest = member (codes "found") (string (codes "module")) rest
+members_with_found (found_redirect specifier) rest = member (codes "found") (string (codes "redirect")) (member (codes "module") (string specifier) rest)
+members_with_found found_absent rest = member (codes "found") (string (codes "absent")) rest
 
 -- an input of a query: what the graph has under the specifier, and the specifier
-abbrev pub input_data : InputView → Data
-input_data input = object (with_found_members input.found (member (codes "specifier") (string input.specifier) no_members))
+abbrev pub input_json : InputView → Data
+input_json input = object (members_with_found input.found (member (codes "specifier") (string input.specifier) no_members))
 
 -- the value of each answer, with its keys in the order of their bytes
 abbrev pub answer_json : AnswerView → Data
 answer_json answer_no_module = null
 answer_json (answer_module specifier) = object (member (codes "module") (string specifier) no_members)
 answer_json (answer_exports entries shared unresolved) = object (member (codes "exports") (array (items_of (map export_json entries)))
-    (with_shared_member shared (member (codes "unresolved") (star_statements_json unresolved) no_members)))
-answer_json (answer_names names) = object (member (codes "names") (array (items_of (map public_name_json names))) no_members)
+    (members_with_shared shared (member (codes "unresolved") (star_statements_json unresolved) no_members)))
+answer_json (answer_names names) = object (member (codes "names") (array (items_of (map name_with_member_json names))) no_members)
 answer_json (answer_symbol found) = object (member (codes "symbol") (symbol_number_json found) no_members)
 answer_json (answer_name name) = object (member (codes "name") (optional_name_json name) no_members)
 answer_json (answer_deps lists) = object (member (codes "deps") (array (items_of (map references_of_decl_json lists))) no_members)
@@ -116,7 +116,7 @@ answer_json (answer_paths paths) = object (member (codes "paths") (array (path_f
 answer_json (answer_definitions definitions) = object (member (codes "definitions") (array (items_of (map definition_json definitions))) no_members)
 answer_json (answer_leaves leaves) = object (member (codes "leaves") (array (items_of (map leaf_json leaves))) no_members)
 answer_json (answer_resolve entries) = object (member (codes "entries") (array (items_of (map dep_entry_json entries))) no_members)
-answer_json (answer_inputs inputs) = object (member (codes "inputs") (array (items_of (map input_data inputs))) no_members)
+answer_json (answer_inputs inputs) = object (member (codes "inputs") (array (items_of (map input_json inputs))) no_members)
 
 -- the value of an answer; a fault if the module has no such symbol
 abbrev pub answer_or_fault_json : Option AnswerView → Data

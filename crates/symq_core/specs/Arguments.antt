@@ -64,7 +64,7 @@ IsArgsFault reads args (exit.Graph _) = ⊥
 IsArgsFault reads args (exit.Engine _) = ⊥
 
 -- the errors for a file that can't be read
-abbrev pub IsErrorOfUnreadFile : ExitError → Type 0
-IsErrorOfUnreadFile exit.NotRead = ⊤
-IsErrorOfUnreadFile (exit.Format format.OutOfMemory) = ⊤
-IsErrorOfUnreadFile _ = ⊥
+abbrev pub IsUnreadableFileOrOutOfMemory : ExitError → Type 0
+IsUnreadableFileOrOutOfMemory exit.NotRead = ⊤
+IsUnreadableFileOrOutOfMemory (exit.Format format.OutOfMemory) = ⊤
+IsUnreadableFileOrOutOfMemory _ = ⊥

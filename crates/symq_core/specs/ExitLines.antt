@@ -24,18 +24,18 @@ engine_fault_line engine.InputFailed = codes "symq: input failed"
 engine_fault_line engine.OutputFailed = codes "symq: output failed"
 engine_fault_line engine.InputTooLong = codes "symq: input too long"
 
-abbrev pub tree_fault_node_text : ℕ → ℕ → List ℕ
-tree_fault_node_text fault_number node = decimal fault_number ++ (codes " " ++ decimal node)
+abbrev pub tree_fault_and_node_numbers_text : ℕ → ℕ → List ℕ
+tree_fault_and_node_numbers_text fault_number node = decimal fault_number ++ (codes " " ++ decimal node)
 
 -- the number of a tree's fault, from 1, and the number of the node that it names, if any
-abbrev pub tree_fault_text : TreeFault → List ℕ
-tree_fault_text tree.NoProgram = codes "1"
-tree_fault_text tree.TooManyNodes = codes "2"
-tree_fault_text (tree.BadChild node) = tree_fault_node_text 3 node
-tree_fault_text (tree.SharedChild node) = tree_fault_node_text 4 node
-tree_fault_text (tree.BadRange node) = tree_fault_node_text 5 node
-tree_fault_text (tree.BadShape node) = tree_fault_node_text 6 node
-tree_fault_text (tree.TooDeep node) = tree_fault_node_text 7 node
+abbrev pub tree_fault_numbers_text : TreeFault → List ℕ
+tree_fault_numbers_text tree.NoProgram = codes "1"
+tree_fault_numbers_text tree.TooManyNodes = codes "2"
+tree_fault_numbers_text (tree.BadChild node) = tree_fault_and_node_numbers_text 3 node
+tree_fault_numbers_text (tree.SharedChild node) = tree_fault_and_node_numbers_text 4 node
+tree_fault_numbers_text (tree.BadRange node) = tree_fault_and_node_numbers_text 5 node
+tree_fault_numbers_text (tree.BadShape node) = tree_fault_and_node_numbers_text 6 node
+tree_fault_numbers_text (tree.TooDeep node) = tree_fault_and_node_numbers_text 7 node
 
 -- the line with the number of a graph's fault, and what the fault names
 abbrev pub graph_fault_line : GraphFault → List ℕ
@@ -45,7 +45,7 @@ graph_fault_line (graph.DuplicateSpecifier specifier) = codes "symq: graph refus
 graph_fault_line (graph.DuplicateRedirect source) = codes "symq: graph refused: 4 " ++ string_bytes source
 graph_fault_line (graph.RedirectToRedirect source) = codes "symq: graph refused: 5 " ++ string_bytes source
 graph_fault_line (graph.DuplicateResolution referrer text) = codes "symq: graph refused: 6 " ++ (string_bytes referrer ++ (codes " " ++ string_bytes text))
-graph_fault_line (graph.Tree specifier fault) = codes "symq: graph refused: 7 " ++ (string_bytes specifier ++ (codes " " ++ tree_fault_text fault))
+graph_fault_line (graph.Tree specifier fault) = codes "symq: graph refused: 7 " ++ (string_bytes specifier ++ (codes " " ++ tree_fault_numbers_text fault))
 
 abbrev pub exit_error_line : ExitError → List ℕ
 exit_error_line ExitError.Usage = codes "usage: symq [--strict] GRAPH"

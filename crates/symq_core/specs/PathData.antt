@@ -9,21 +9,21 @@ use Rattle.symbols_paths.specs.DepAnswers.{DepEntryView, path_dep_entry, module_
 use Rattle.symq_core.specs.TextsData.{string_list_json}
 
 -- a declaration: the number of its symbol, and its index among the symbol's declarations
-abbrev pub decl_json : DeclBySpecifier → Data
-decl_json decl = array (item (number (unsigned decl.symbol.number.0)) (item (number (unsigned decl.index)) no_items))
+abbrev pub decl_symbol_and_index_json : DeclBySpecifier → Data
+decl_symbol_and_index_json decl = array (item (number (unsigned decl.symbol.number.0)) (item (number (unsigned decl.index)) no_items))
 
 -- the members, with the specifier of a star import before them
-abbrev pub with_star_member : Option FileDepView → Members → Members
-with_star_member None rest = rest
-with_star_member (Some dep) rest = member (codes "star") (string dep.specifier) rest
+abbrev pub members_with_star : Option FileDepView → Members → Members
+members_with_star None rest = rest
+members_with_star (Some dep) rest = member (codes "star") (string dep.specifier) rest
 
 -- a definition or a star import: its declaration, end, module, start and symbol
 abbrev pub definition_json : DefinitionView → Data
 definition_json defined =
-    object (member (codes "decl") (decl_json defined.decl)
+    object (member (codes "decl") (decl_symbol_and_index_json defined.decl)
     (member (codes "end") (number (unsigned defined.range.end))
     (member (codes "module") (string defined.decl.symbol.specifier)
-    (with_star_member defined.star
+    (members_with_star defined.star
     (member (codes "start") (number (unsigned defined.range.start))
     (member (codes "symbol") (number (unsigned defined.decl.symbol.number.0)) no_members))))))
 
@@ -67,7 +67,7 @@ abbrev mutual
   pub path_tree_json : PathTree → Data
   path_tree_json (leaf x) = leaf_json x
   path_tree_json (link head next) =
-      object (member (codes "decl") (decl_json head.decl)
+      object (member (codes "decl") (decl_symbol_and_index_json head.decl)
       (member (codes "module") (string head.symbol.specifier)
       (member (codes "next") (array (path_forest_json_items next))
       (link_members_after_next head.parts head.symbol.number))))

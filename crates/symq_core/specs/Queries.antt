@@ -23,14 +23,14 @@ read_exports_question no_items = Some query_exports
 read_exports_question _ = None
 
 -- the items after the specifier in `["names", specifier]`
-abbrev pub read_names_question : Items → Option QuestionView
-read_names_question no_items = Some query_names
-read_names_question _ = None
+abbrev pub read_public_names_question : Items → Option QuestionView
+read_public_names_question no_items = Some query_names
+read_public_names_question _ = None
 
 -- the items after the specifier in `["symbol", specifier, name, scope]`
-abbrev pub read_symbol_question : Items → Option QuestionView
-read_symbol_question (item name (item scope no_items)) = option_map query_symbol (read_id name scope)
-read_symbol_question _ = None
+abbrev pub read_symbol_of_ident_question : Items → Option QuestionView
+read_symbol_of_ident_question (item name (item scope no_items)) = option_map query_symbol (read_id name scope)
+read_symbol_of_ident_question _ = None
 
 -- the number of a symbol as the only item
 abbrev pub read_single_symbol_id : Items → Option SymbolId
@@ -38,8 +38,8 @@ read_single_symbol_id (item symbol no_items) = option_map (λ n. record { 0 = n 
 read_single_symbol_id _ = None
 
 -- the items after the specifier in `["name", specifier, number]`
-abbrev pub read_name_question : Items → Option QuestionView
-read_name_question items = option_map query_name (read_single_symbol_id items)
+abbrev pub read_qualified_name_question : Items → Option QuestionView
+read_qualified_name_question items = option_map query_name (read_single_symbol_id items)
 
 -- the items after the specifier in `["paths", specifier, number]`, `["definitions", specifier, number]` and `["leaves", specifier, number]`
 abbrev pub read_paths_question : Items → Option QuestionView
@@ -69,9 +69,9 @@ read_deps_question _ = None
 
 -- the form of each query, by its keyword
 abbrev pub question_readers : List (List ℕ × (Items → Option QuestionView))
-question_readers = (codes "module", read_module_question) ∷ (codes "exports", read_exports_question) ∷ (codes "names", read_names_question)
-    ∷ (codes "symbol", read_symbol_question)
-    ∷ (codes "name", read_name_question) ∷ (codes "deps", read_deps_question) ∷ (codes "paths", read_paths_question)
+question_readers = (codes "module", read_module_question) ∷ (codes "exports", read_exports_question) ∷ (codes "names", read_public_names_question)
+    ∷ (codes "symbol", read_symbol_of_ident_question)
+    ∷ (codes "name", read_qualified_name_question) ∷ (codes "deps", read_deps_question) ∷ (codes "paths", read_paths_question)
     ∷ (codes "definitions", read_definitions_question)
     ∷ (codes "leaves", read_leaves_question) ∷ (codes "resolve", read_resolve_question) ∷ []
 

@@ -8,7 +8,7 @@ ghost use Rattle.std.specs.Vec.Iter.{into_iter_items};
 ghost use Rattle.symbols_root.specs.declared.rules.Rules.{Rules};
 ghost use Rattle.symq_core.specs.ExitStatus.{IsErrorBeforeGraphCheck};
 ghost use Rattle.symq_core.specs.Arguments.{rules_and_path_of_first_two_args, rules_and_path_of_args};
-ghost use Rattle.symq_core.specs.Arguments.{AreRulesAndGraphOfArgs, IsArgsFault, IsErrorOfUnreadFile};
+ghost use Rattle.symq_core.specs.Arguments.{AreRulesAndGraphOfArgs, IsArgsFault, IsUnreadableFileOrOutOfMemory};
 
 use crate::exit_error::ExitError;
 use std::alloc::Global;
@@ -23,7 +23,7 @@ use symq_reader::{FormatFault, read_graph};
 /// Returns the error for a file, or an argument, that can't be read: out of memory, or else an
 /// unreadable file. An argument that isn't UTF-8 names no file that this program can open.
 fn file_error(kind: ErrorKind) -> ExitError
-    ensures { IsErrorOfUnreadFile result }
+    ensures { IsUnreadableFileOrOutOfMemory result }
 {
     match kind {
         ErrorKind::OutOfMemory => ExitError::Format(FormatFault::OutOfMemory),

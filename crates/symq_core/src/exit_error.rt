@@ -2,9 +2,8 @@
 
 ghost use Rattle.std.specs.Prelude.{◌≡◌, ◌++◌, IfOk, codes, string_bytes};
 ghost use Rattle.symq_core.specs.ExitStatus.{exit_error_status};
-ghost use Rattle.symq_core.specs.ExitLines.{out_of_memory_line, format_fault_line};
-ghost use Rattle.symq_core.specs.ExitLines.{engine_fault_line};
-ghost use Rattle.symq_core.specs.ExitLines.{tree_fault_node_text, tree_fault_text};
+ghost use Rattle.symq_core.specs.ExitLines.{out_of_memory_line, format_fault_line, engine_fault_line};
+ghost use Rattle.symq_core.specs.ExitLines.{tree_fault_and_node_numbers_text, tree_fault_numbers_text};
 ghost use Rattle.symq_core.specs.ExitLines.{graph_fault_line, exit_error_line};
 
 use crate::fault::EngineFault;
@@ -116,7 +115,7 @@ fn graph_fault_line(alloc: Global, fault: &GraphFault) -> Result<String, AllocEr
 fn tree_line(alloc: Global, specifier: &str, fault: TreeFault) -> Result<String, AllocError>
     ensures { IfOk result (λ line. string_bytes line
         ≡ codes "symq: graph refused: 7 "
-        ++ (specifier.now ++ (codes " " ++ tree_fault_text fault))) }
+        ++ (specifier.now ++ (codes " " ++ tree_fault_numbers_text fault))) }
 {
     let rest = tree_fault_text(alloc, fault)?;
     format!(in alloc; "symq: graph refused: 7 {specifier} {rest}")
@@ -124,7 +123,7 @@ fn tree_line(alloc: Global, specifier: &str, fault: TreeFault) -> Result<String,
 
 /// Returns the number of a tree's fault and, if the fault names a node, the node's number.
 fn tree_fault_text(alloc: Global, fault: TreeFault) -> Result<String, AllocError>
-    ensures { IfOk result (λ text. string_bytes text ≡ tree_fault_text fault) }
+    ensures { IfOk result (λ text. string_bytes text ≡ tree_fault_numbers_text fault) }
 {
     match fault {
         TreeFault::NoProgram => String::from_str(alloc, "1"),
@@ -139,7 +138,7 @@ fn tree_fault_text(alloc: Global, fault: TreeFault) -> Result<String, AllocError
 
 /// Returns the number of a fault and the number of a node, separated by a space.
 fn tree_fault_node_text(alloc: Global, fault_number: u8, node: NodeId) -> Result<String, AllocError>
-    ensures { IfOk result (λ text. string_bytes text ≡ tree_fault_node_text fault_number node) }
+    ensures { IfOk result (λ text. string_bytes text ≡ tree_fault_and_node_numbers_text fault_number node) }
 {
     let number = node.index();
     format!(in alloc; "{fault_number} {number}")

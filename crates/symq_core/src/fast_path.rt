@@ -8,7 +8,7 @@ ghost use Rattle.std.specs.Option.{option_and_then};
 ghost use Rattle.serde_json.specs.Data.{unsigned, number, string, no_items, item};
 ghost use Rattle.symbols_queries.specs.Queries.{query_with_question, query_view};
 ghost use Rattle.symq_reader.specs.GraphText.{json_of_bytes};
-ghost use Rattle.symq_reader.specs.QueryLists.{list_tail_items};
+ghost use Rattle.symq_reader.specs.QueryLists.{items_after_two_strings};
 ghost use Rattle.symq_core.specs.Queries.{question_by_keyword, query_of_json};
 
 use crate::query::deps_mode_by_keyword;
@@ -67,7 +67,7 @@ fn query_of_mode<'r>(
 fn query_of_list<'r>(list: &QueryList<'r>) -> Option<Query<'r>>
     ensures { option_map query_view result ≡ option_map (query_with_question
         list.now.second.now)
-        (question_by_keyword list.now.first.now (list_tail_items list.now.tail)) }
+        (question_by_keyword list.now.first.now (items_after_two_strings list.now.tail)) }
 {
     match list.tail {
         ListTail::Nothing => query_of_module(list.first, list.second),

@@ -4,16 +4,12 @@ ghost use Rattle.std.specs.Prelude.{◌≡◌, option_map, IfOk};
 ghost use Rattle.symbols_answers.specs.Questions.{inputs_query};
 ghost use Rattle.symbols_queries.specs.Queries.{query_with_question, query_view};
 ghost use Rattle.symq_reader.specs.JsonData.{value_data, items_data};
-ghost use Rattle.symq_core.specs.Queries.{keyword_specifier_and_items};
-ghost use Rattle.symq_core.specs.Queries.{query_by_keyword, value_after_inputs};
-ghost use Rattle.symq_core.specs.Queries.{inputs_query_of_data};
-ghost use Rattle.symq_core.specs.Queries.{read_module_question, read_exports_question};
-ghost use Rattle.symq_core.specs.Queries.{read_names_question, read_symbol_question};
-ghost use Rattle.symq_core.specs.Queries.{read_single_symbol_id, read_name_question};
-ghost use Rattle.symq_core.specs.Queries.{read_paths_question, read_definitions_question};
-ghost use Rattle.symq_core.specs.Queries.{read_leaves_question};
-ghost use Rattle.symq_core.specs.Queries.{deps_mode_by_keyword, read_deps_question};
-ghost use Rattle.symq_core.specs.Queries.{read_resolve_question};
+ghost use Rattle.symq_core.specs.Queries.{keyword_specifier_and_items, query_by_keyword, value_after_inputs};
+ghost use Rattle.symq_core.specs.Queries.{inputs_query_of_data, read_module_question, read_exports_question};
+ghost use Rattle.symq_core.specs.Queries.{read_public_names_question, read_symbol_of_ident_question};
+ghost use Rattle.symq_core.specs.Queries.{read_single_symbol_id, read_qualified_name_question, read_paths_question};
+ghost use Rattle.symq_core.specs.Queries.{read_definitions_question, read_leaves_question, deps_mode_by_keyword};
+ghost use Rattle.symq_core.specs.Queries.{read_deps_question, read_resolve_question};
 
 use crate::references::{read_id, read_reference};
 use json::Value;
@@ -70,7 +66,7 @@ fn exports_query<'r>(specifier: &'r str, items: &[Value<'_>]) -> Option<Query<'r
 fn names_query<'r>(specifier: &'r str, items: &[Value<'_>]) -> Option<Query<'r>>
     ensures { option_map query_view result
         ≡ option_map (query_with_question specifier.now)
-        (read_names_question (items_data items.now)) }
+        (read_public_names_question (items_data items.now)) }
 {
     match items {
         [] => Some(Query::Names(specifier)),
@@ -87,7 +83,7 @@ fn symbol_query<'r>(
 ) -> Result<Option<Query<'r>>, AllocError>
     ensures { IfOk result (λ query. option_map query_view query
         ≡ option_map (query_with_question specifier.now)
-        (read_symbol_question (items_data items.now))) }
+        (read_symbol_of_ident_question (items_data items.now))) }
 {
     let [name, scope] = items else {
         return Ok(None);
@@ -112,7 +108,7 @@ fn read_single_symbol_id(items: &[Value<'_>]) -> Option<SymbolId>
 /// Returns the query `name`; `None` if the items aren't one symbol.
 fn name_query<'r>(specifier: &'r str, items: &[Value<'_>]) -> Option<Query<'r>>
     ensures { option_map query_view result
-        ≡ option_map (query_with_question specifier.now) (read_name_question (items_data items.now)) }
+        ≡ option_map (query_with_question specifier.now) (read_qualified_name_question (items_data items.now)) }
 {
     let symbol = read_single_symbol_id(items)?;
     Some(Query::Name(specifier, symbol))

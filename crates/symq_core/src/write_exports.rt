@@ -7,7 +7,7 @@ ghost use Rattle.symbols_answers.specs.Answers.{answer_exports};
 ghost use Rattle.symbols_queries.specs.AnswerViews.{star_statement_by_specifier_view, export_view};
 ghost use Rattle.symbols_queries.specs.AnswerViews.{shared_names_view};
 ghost use Rattle.symq_core.specs.AnswerData.{star_statement_json, star_statements_json};
-ghost use Rattle.symq_core.specs.AnswerData.{export_json, with_shared_member, answer_json};
+ghost use Rattle.symq_core.specs.AnswerData.{export_json, members_with_shared, answer_json};
 ghost use Rattle.symq_core.specs.inner.JsonWriting.{AppendsValueTokensIfOk, AppendsTokensIfOk};
 ghost use Rattle.symq_core.specs.inner.JsonWriting.{remaining_member_tokens};
 
@@ -70,7 +70,7 @@ fn end_unresolved(
 /// unresolved `export *` statements.
 fn end_exports(out: &mut Writer, named: &ExportsBySpecifier<'_>) -> Result<(), AllocError>
     ensures { AppendsTokensIfOk result out.old out.new
-        (remaining_member_tokens (with_shared_member (option_map shared_names_view named.now.shared)
+        (remaining_member_tokens (members_with_shared (option_map shared_names_view named.now.shared)
         (member (codes "unresolved")
         (star_statements_json (map star_statement_by_specifier_view named.now.unresolved.items))
         no_members))) }

@@ -2,7 +2,7 @@
 
 ghost use Rattle.symbols_answers.specs.Inputs.{InputView};
 ghost use Rattle.symbols_queries.specs.AnswerViews.{found_view, input_view};
-ghost use Rattle.symq_core.specs.AnswerData.{input_data};
+ghost use Rattle.symq_core.specs.AnswerData.{input_json};
 ghost use Rattle.symq_core.specs.inner.JsonWriting.{AppendsTokensIfOk, found_member_tokens};
 
 use crate::write_json::{WriteJson, add_text};
@@ -31,7 +31,7 @@ impl WriteJson for QueryInput<'_> {
 
     ghost view = { input_view };
 
-    ghost value = { input_data };
+    ghost value = { input_json };
 
     fn write_json(&self, out: &mut Writer) -> Result<(), AllocError> {
         out.begin_object()?;

@@ -12,7 +12,7 @@ ghost use Rattle.symbols_queries.specs.AnswerViews.{path_tree_view, path_forest_
 ghost use Rattle.symbols_queries.specs.AnswerViews.{path_end_view, dep_entry_view};
 ghost use Rattle.symbols_queries.specs.inner.AnswerViews.{path_link_view};
 ghost use Rattle.symq_core.specs.AnswerData.{answer_json};
-ghost use Rattle.symq_core.specs.PathData.{decl_json, definition_json, unresolved_reason_str};
+ghost use Rattle.symq_core.specs.PathData.{decl_symbol_and_index_json, definition_json, unresolved_reason_str};
 ghost use Rattle.symq_core.specs.PathData.{unresolved_name_or_specifier, optional_scope_member};
 ghost use Rattle.symq_core.specs.PathData.{unresolved_json, leaf_json, link_members_after_next};
 ghost use Rattle.symq_core.specs.PathData.{path_tree_json, path_forest_json_items, dep_entry_json};
@@ -36,7 +36,7 @@ use symbols_queries::{
 fn write_decl(out: &mut Writer, decl: DeclRef) -> Result<(), AllocError>
     ensures { (specifier : List ℕ)
         → AppendsValueTokensIfOk result out.old out.new
-        (decl_json (decl_with_specifier specifier decl)) }
+        (decl_symbol_and_index_json (decl_with_specifier specifier decl)) }
 {
     out.begin_array()?;
     out.u64(u64::from(decl.symbol.number()))?;

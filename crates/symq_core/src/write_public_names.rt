@@ -1,8 +1,8 @@
 //! Writes the public names of a module as JSON.
 
 ghost use Rattle.std.specs.Prelude.{option_map, string_bytes};
-ghost use Rattle.symbols_exports.specs.PublicNames.{PublicNameView, public_name_view};
-ghost use Rattle.symq_core.specs.AnswerData.{items_of_optional_member_name, public_name_json};
+ghost use Rattle.symbols_exports.specs.PublicNames.{ExportedNameWithMember, public_name_view};
+ghost use Rattle.symq_core.specs.AnswerData.{items_of_optional_member_name, name_with_member_json};
 ghost use Rattle.symq_core.specs.inner.JsonWriting.{AppendsTokensIfOk, remaining_item_tokens};
 
 use crate::write_json::WriteJson;
@@ -24,11 +24,11 @@ fn end_name(out: &mut Writer, member: &Option<String>) -> Result<(), AllocError>
 
 /// Writes a public name: the exported name, and the member after it, if any.
 impl WriteJson for PublicName {
-    ghost View = { PublicNameView };
+    ghost View = { ExportedNameWithMember };
 
     ghost view = { public_name_view };
 
-    ghost value = { public_name_json };
+    ghost value = { name_with_member_json };
 
     fn write_json(&self, out: &mut Writer) -> Result<(), AllocError> {
         out.begin_array()?;

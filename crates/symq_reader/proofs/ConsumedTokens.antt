@@ -11,7 +11,7 @@ use Rattle.json.specs.declared.value.Value.{Value}
 use Rattle.json.proofs.Grammar.{left, items_end, items_more, members_end, members_more, skip_value-shorter, read_key-shorter}
 use Rattle.serde_json.specs.Data.{Data}
 use Rattle.symq_reader.specs.JsonData.{json_data, json_items_data}
-use Rattle.symq_reader.specs.inner.JsonData.{fits, items_fit, members_fit}
+use Rattle.symq_reader.specs.inner.JsonData.{json_has_whole_numbers, json_items_have_whole_numbers, json_members_have_whole_numbers}
 use Rattle.symq_reader.specs.UnderKeys.{read_each_item}
 use Rattle.symq_reader.specs.inner.Streams.{items_joined, members_joined, ConsumesItems, ConsumesMembers, SkipsToKey, ReadsMemberApart}
 
@@ -95,11 +95,12 @@ apart : (a b : Bool) → (a && b) ≡ true → (a ≡ true) × (b ≡ true)
 apart true b e = (refl, e)
 apart false b e = absurd (cc)
 
-pub item_fits : (done : Items) (j : Json) → items_fit done ≡ true → fits j ≡ true → items_fit (items_joined done (item j no_items)) ≡ true
-item_fits no_items j d e = both (fits j) true e refl
+pub item_fits : (done : Items) (j : Json) → json_items_have_whole_numbers done ≡ true → json_has_whole_numbers j ≡ true
+    → json_items_have_whole_numbers (items_joined done (item j no_items)) ≡ true
+item_fits no_items j d e = both (json_has_whole_numbers j) true e refl
 item_fits (item i done) j d e =
-    let h = apart (fits i) (items_fit done) d in
-    both (fits i) (items_fit (items_joined done (item j no_items))) h.0 (item_fits done j h.1 e)
+    let h = apart (json_has_whole_numbers i) (json_items_have_whole_numbers done) d in
+    both (json_has_whole_numbers i) (json_items_have_whole_numbers (items_joined done (item j no_items))) h.0 (item_fits done j h.1 e)
 
 first_then : {S : Type 0} (o : Option S) (front back : Option (List S)) (xs : List S) (x : S) → ((ys : List S) → front ≡ Some ys → back ≡ Some (ys ++ x ∷ []))
     → option_and_then (λ y. option_map (λ ys. y ∷ ys) front) o ≡ Some xs → option_and_then (λ y. option_map (λ ys. y ∷ ys) back) o ≡ Some (xs ++ x ∷ [])
@@ -157,12 +158,13 @@ pub took_all : (depth : ℕ) (old ts r : List Token) (done : Members) → Consum
 took_all depth old ts r done took e =
     took.on no_members r (members_end (value depth) (length ts) ts r (omega arith) e) ∙ ap (λ x. Some (x, r)) (joined-none done)
 
-pub member_fits : (done : Members) (k : List ℕ) (j : Json) (ms : Members) → members_fit done ≡ true → fits j ≡ true → members_fit ms ≡ true
-    → members_fit (members_joined done (member k j ms)) ≡ true
-member_fits no_members k j ms d e f = both (fits j) (members_fit ms) e f
+pub member_fits : (done : Members) (k : List ℕ) (j : Json) (ms : Members) → json_members_have_whole_numbers done ≡ true → json_has_whole_numbers j ≡ true
+    → json_members_have_whole_numbers ms ≡ true
+    → json_members_have_whole_numbers (members_joined done (member k j ms)) ≡ true
+member_fits no_members k j ms d e f = both (json_has_whole_numbers j) (json_members_have_whole_numbers ms) e f
 member_fits (member l i done) k j ms d e f =
-    let h = apart (fits i) (members_fit done) d in
-    both (fits i) (members_fit (members_joined done (member k j ms))) h.0 (member_fits done k j ms h.1 e f)
+    let h = apart (json_has_whole_numbers i) (json_members_have_whole_numbers done) d in
+    both (json_has_whole_numbers i) (json_members_have_whole_numbers (members_joined done (member k j ms))) h.0 (member_fits done k j ms h.1 e f)
 
 later_or-None : (o : Option Json) → later_or o None ≡ o
 later_or-None None = refl
@@ -218,7 +220,7 @@ around_none depth old new key done retained passed same = record {
 }
 
 pub around_one : (depth : ℕ) (old r s new : List Token) (key : List ℕ) (before after retained : Members) (j : Json) → SkipsToKey depth old key true r before
-    → value depth r ≡ Some (j, s) → fits j ≡ true → SkipsToKey depth s key false new after
+    → value depth r ≡ Some (j, s) → json_has_whole_numbers j ≡ true → SkipsToKey depth s key false new after
     → retained ≡ members_joined before after → ReadsMemberApart depth old new key (Some j) retained
 around_one depth old r s new key before after retained j first is fit second same =
     let rest = took_all depth s second.key_tokens new after second.took second.next in

@@ -14,14 +14,15 @@ use Rattle.symq_reader.specs.declared.entries.Entry.{Entry}
 use Rattle.symq_reader.specs.GraphText.{as_range}
 use Rattle.symq_reader.specs.inner.Objects.{whole_number, whole_numbers, fast_path_value_data, put_entries}
 use Rattle.symq_reader.specs.JsonData.{number_or_minus_one, json_data, json_items_data, json_members_data}
-use Rattle.symq_reader.specs.inner.JsonData.{fits, items_fit, members_fit}
+use Rattle.symq_reader.specs.inner.JsonData.{json_has_whole_numbers, json_items_have_whole_numbers, json_members_have_whole_numbers}
 use Rattle.symq_reader.specs.inner.Streams.{members_joined, ReadsValue, ReadsItems}
 use Rattle.symq_reader.specs.UnderKeys.{read_each_item, as_identifier}
 use Rattle.symq_reader.proofs.ConsumedTokens.{took_no_items, took_item, took_all_items, both}
 
 -- ---- single values
 
-pub scalar_read : (depth : ℕ) (old new : List Token) (t : Token) (j : Json) → old ≡ t ∷ new → value depth (t ∷ new) ≡ Some (j, new) → fits j ≡ true
+pub scalar_read : (depth : ℕ) (old new : List Token) (t : Token) (j : Json) → old ≡ t ∷ new → value depth (t ∷ new) ≡ Some (j, new) → json_has_whole_numbers j
+    ≡ true
     → ReadsValue depth old new (λ d. Some d) (json_data j)
 scalar_read depth old new t j begins is fit = record { at = j; read = ap (value depth) begins ∙ is; fit = fit; is = refl }
 
@@ -73,7 +74,7 @@ first_read form depth old mid new x xs first more =
     record {
       all = json.item first.at more.all;
       read = took.on more.all new more.read;
-      fit = both (fits first.at) (items_fit more.all) first.fit more.fit;
+      fit = both (json_has_whole_numbers first.at) (json_items_have_whole_numbers more.all) first.fit more.fit;
       are = ap (option_and_then (λ y. option_map (λ ys. y ∷ ys) (read_each_item form (json_items_data more.all)))) first.is
           ∙ ap (option_map (λ ys. x ∷ ys)) more.are;
     }
@@ -144,7 +145,7 @@ more_than_two (a ∷ b ∷ c ∷ ns) h = refl
 -- ---- members
 
 pub members_read : (rest new : List Token) (all retained : json.Members) → retained ≡ all → members (value 120) (length rest) rest ≡ Some (all, new)
-    → members_fit all ≡ true
+    → json_members_have_whole_numbers all ≡ true
     → ReadsValue 121 (Token.begin_object ∷ rest) new (λ d. Some d) (json_data (json.object retained))
 members_read rest new all retained same read fit = record {
   at = json.object all;

@@ -16,10 +16,10 @@ use Rattle.json.proofs.Printed.Utf8.{IsUtf8-are_ascii, IsUtf8-quoted, IsUtf8-IsG
 use Rattle.serde_json.specs.Data.{number, string, array, no_items, item}
 use Rattle.serde_json.proofs.Numbers.{number_of-decimal}
 use Rattle.symq_reader.specs.GraphText.{json_of_bytes}
-use Rattle.symq_reader.specs.inner.ListTexts.{IsAfterComma, IsListTailText, IsListText, IsValidListTail}
+use Rattle.symq_reader.specs.inner.ListTexts.{IsAfterComma, IsTextAfterTwoStrings, IsQueryArrayText, HasU64NumberAndUtf8Text}
 use Rattle.symq_reader.specs.JsonData.{number_or_minus_one, json_data, json_items_data}
-use Rattle.symq_reader.specs.inner.JsonData.{fits, items_fit}
-use Rattle.symq_reader.specs.QueryLists.{list_tail_items, query_list_json}
+use Rattle.symq_reader.specs.inner.JsonData.{json_has_whole_numbers, json_items_have_whole_numbers}
+use Rattle.symq_reader.specs.QueryLists.{items_after_two_strings, query_array_json}
 use Rattle.symq_reader.specs.declared.query_list.ListTail.{ListTail}
 use Rattle.symq_reader.specs.declared.query_list.ListTail.TheVariants.{Nothing, Number, NumberAndText}
 use Rattle.symq_reader.specs.declared.query_list.QueryList.{QueryList}
@@ -49,7 +49,7 @@ record Spaced (after_value : Bool) (bytes : List ℕ) (ts : List Token) : Type 0
   viewed : map (λ p. p.1) pairs ≡ ts
   text : bytes ≡ print_spaced after_value pairs
 
-after_spaced : (bytes : List ℕ) (b : ListTail) → IsListTailText bytes b → Spaced true bytes (after_tokens b)
+after_spaced : (bytes : List ℕ) (b : ListTail) → IsTextAfterTwoStrings bytes b → Spaced true bytes (after_tokens b)
 unfolding print_spaced
 after_spaced bytes Nothing is = record { pairs = ([], token.end_array) ∷ []; gaps = (tt, tt); viewed = refl; text = is }
 after_spaced bytes (Number n) is =
@@ -61,7 +61,7 @@ after_spaced bytes (NumberAndText n text) (rest, is, more) = record {
   text = is.text ∙ ap (λ r. 44 ∷ (is.gap ++ (decimal n ++ r))) more.text;
 }
 
-list_spaced : (bytes : List ℕ) (l : QueryList) → IsListText bytes l → Spaced false bytes (list_tokens l)
+list_spaced : (bytes : List ℕ) (l : QueryList) → IsQueryArrayText bytes l → Spaced false bytes (list_tokens l)
 unfolding print_spaced
 list_spaced bytes l is =
     let s = after_spaced is.tail l.tail is.end in
@@ -74,17 +74,17 @@ list_spaced bytes l is =
           ∙ ap (λ r. 91 ∷ (quoted l.first.now ++ 44 ∷ (is.second.gap ++ (quoted l.second.now ++ r)))) s.text);
     }
 
-after_printable : (b : ListTail) → IsValidListTail b → ArePrintable (after_tokens b)
+after_printable : (b : ListTail) → HasU64NumberAndUtf8Text b → ArePrintable (after_tokens b)
 unfolding ArePrintable
 after_printable Nothing h = (tt, tt)
 after_printable (Number n) h = (IsNumber-decimal n h, (tt, tt))
 after_printable (NumberAndText n text) h = (IsNumber-decimal n h.0, (tt, (tt, tt)))
 
-list_printable : (l : QueryList) → IsValidListTail l.tail → ArePrintable (list_tokens l)
+list_printable : (l : QueryList) → HasU64NumberAndUtf8Text l.tail → ArePrintable (list_tokens l)
 unfolding ArePrintable
 list_printable l h = (tt, (tt, (tt, after_printable l.tail h)))
 
-list_viewed : (bytes : List ℕ) (l : QueryList) → IsValidListTail l.tail → IsListText bytes l → tokens bytes ≡ list_tokens l
+list_viewed : (bytes : List ℕ) (l : QueryList) → HasU64NumberAndUtf8Text l.tail → IsQueryArrayText bytes l → tokens bytes ≡ list_tokens l
 list_viewed bytes l h is =
     let s = list_spaced bytes l is in
     ap tokens s.text ∙ (tokens-print_spaced s.pairs s.gaps (subst ArePrintable (sym s.viewed) (list_printable l h)) ∙ s.viewed)
@@ -98,12 +98,12 @@ after_read first second Nothing = refl
 after_read first second (Number n) = refl
 after_read first second (NumberAndText n text) = refl
 
-after_fit : (b : ListTail) → IsValidListTail b → items_fit (after_values b) ≡ true
+after_fit : (b : ListTail) → HasU64NumberAndUtf8Text b → json_items_have_whole_numbers (after_values b) ≡ true
 after_fit Nothing h = refl
 after_fit (Number n) h = rw (number_of-decimal n h) refl
 after_fit (NumberAndText n text) h = rw (number_of-decimal n h.0) refl
 
-after_unescaped : (b : ListTail) → IsValidListTail b → json_items_data (after_values b) ≡ list_tail_items b
+after_unescaped : (b : ListTail) → HasU64NumberAndUtf8Text b → json_items_data (after_values b) ≡ items_after_two_strings b
 after_unescaped Nothing h = refl
 after_unescaped (Number n) h = ap (λ o. item (number (number_or_minus_one o)) no_items) (number_of-decimal n h)
 after_unescaped (NumberAndText n text) h = ap (λ o. item (number (number_or_minus_one o)) (item (string text.now) no_items)) (number_of-decimal n h.0)
@@ -120,14 +120,15 @@ utf8_comma : (bytes rest : List ℕ) → IsAfterComma bytes rest → IsUtf8 rest
 utf8_comma bytes rest is h =
     subst IsUtf8 (sym is.text) (IsUtf8-append (44 ∷ []) _ (IsUtf8-are_ascii (44 ∷ []) refl) (IsUtf8-append is.gap rest (IsUtf8-IsGap is.gap is.is_gap) h))
 
-utf8_after : (bytes : List ℕ) (b : ListTail) → IsValidListTail b → IsListTailText bytes b → IsUtf8 bytes
+utf8_after : (bytes : List ℕ) (b : ListTail) → HasU64NumberAndUtf8Text b → IsTextAfterTwoStrings bytes b → IsUtf8 bytes
 utf8_after bytes Nothing h is = subst IsUtf8 (sym is) utf8_bracket
 utf8_after bytes (Number n) h is = utf8_comma bytes _ is (IsUtf8-append (decimal n) (93 ∷ []) (utf8_decimal n h) utf8_bracket)
 utf8_after bytes (NumberAndText n text) h (rest, is, more) =
     utf8_comma bytes _ is (IsUtf8-append (decimal n) rest (utf8_decimal n h.0)
     (utf8_comma rest _ more (IsUtf8-append (quoted text.now) (93 ∷ []) (IsUtf8-quoted text.now h.1) utf8_bracket)))
 
-utf8_list : (bytes : List ℕ) (l : QueryList) → IsUtf8 l.first.now → IsUtf8 l.second.now → IsValidListTail l.tail → IsListText bytes l → IsUtf8 bytes
+utf8_list : (bytes : List ℕ) (l : QueryList) → IsUtf8 l.first.now → IsUtf8 l.second.now → HasU64NumberAndUtf8Text l.tail → IsQueryArrayText bytes l
+    → IsUtf8 bytes
 utf8_list bytes l first second h is =
     let tail = utf8_after is.tail l.tail h is.end in
     let rest = utf8_comma is.rest _ is.second (IsUtf8-append (quoted l.second.now) is.tail (IsUtf8-quoted l.second.now second) tail) in
@@ -136,18 +137,19 @@ utf8_list bytes l first second h is =
 
 -- ---- what `serde_json` reads of the text
 
-list_read : (bytes : List ℕ) (l : QueryList) → IsUtf8 l.first.now → IsUtf8 l.second.now → IsValidListTail l.tail → IsListText bytes l
-    → json_of_bytes bytes ≡ Some (query_list_json l)
+list_read : (bytes : List ℕ) (l : QueryList) → IsUtf8 l.first.now → IsUtf8 l.second.now → HasU64NumberAndUtf8Text l.tail → IsQueryArrayText bytes l
+    → json_of_bytes bytes ≡ Some (query_array_json l)
 list_read bytes l first second h is =
     let utf8 = utf8_list bytes l first second h is in
     let all : value 127 (tokens bytes) ≡ Some (list_value l, []) = ap (value 127) (list_viewed bytes l h is) ∙ after_read l.first.now l.second.now l.tail in
-    let fit : fits (list_value l) ≡ true = after_fit l.tail h in
-    let same : json_data (list_value l) ≡ query_list_json l =
+    let fit : json_has_whole_numbers (list_value l) ≡ true = after_fit l.tail h in
+    let same : json_data (list_value l) ≡ query_array_json l =
     ap (λ ds. array (item (string l.first.now) (item (string l.second.now) ds))) (after_unescaped l.tail h) in
     fitting_value bytes bytes (list_value l) utf8 refl all fit ∙ ap Some same
 
-pub any_list_read : (bytes : List ℕ) (found : Option QueryList) → IfSome found (IsListText bytes)
-    → IfSome found (λ l. IsUtf8 l.first.now × IsUtf8 l.second.now × IsValidListTail l.tail) → IfSome found (λ l. json_of_bytes bytes ≡ Some (query_list_json l))
+pub any_list_read : (bytes : List ℕ) (found : Option QueryList) → IfSome found (IsQueryArrayText bytes)
+    → IfSome found (λ l. IsUtf8 l.first.now × IsUtf8 l.second.now × HasU64NumberAndUtf8Text l.tail)
+    → IfSome found (λ l. json_of_bytes bytes ≡ Some (query_array_json l))
 any_list_read bytes None is sound = tt
 any_list_read bytes (Some l) is sound = list_read bytes l sound.0 sound.1 sound.2 is
 

@@ -10,7 +10,7 @@ use Rattle.std.specs.Cmp.Lexicographic.{slice_cmp}
 use Rattle.symq_reader.specs.Lists.{has_no_object_and_whole_numbers, items_have_no_object_and_whole_numbers}
 use Rattle.symq_reader.specs.Numbers.{has_whole_numbers, items_have_whole_numbers, members_have_whole_numbers}
 use Rattle.symq_reader.specs.JsonData.{number_or_minus_one, json_data, json_items_data, json_members_data}
-use Rattle.symq_reader.specs.inner.JsonData.{fits, items_fit, members_fit}
+use Rattle.symq_reader.specs.inner.JsonData.{json_has_whole_numbers, json_items_have_whole_numbers, json_members_have_whole_numbers}
 
 both : (a b : Bool) → (a && b) ≡ true → (a ≡ true) × (b ≡ true)
 both true b e = (refl, e)
@@ -23,7 +23,7 @@ some_whole None e = absurd (cc)
 some_whole (Some n) e = refl
 
 mutual
-  pub of_json-fits : (j : json.Json) → fits j ≡ true → of_json j ≡ Some (json_data j)
+  pub of_json-fits : (j : json.Json) → json_has_whole_numbers j ≡ true → of_json j ≡ Some (json_data j)
   of_json-fits json.null e = refl
   of_json-fits (json.boolean b) e = refl
   of_json-fits (json.number s) e = some_whole (number_of s) e
@@ -31,16 +31,16 @@ mutual
   of_json-fits (json.array js) e = ap (option_map array) (of_items-fit js e)
   of_json-fits (json.object ms) e = ap (option_map object) (of_members-fit ms no_members e)
 
-  of_items-fit : (js : json.Items) → items_fit js ≡ true → of_items js ≡ Some (json_items_data js)
+  of_items-fit : (js : json.Items) → json_items_have_whole_numbers js ≡ true → of_items js ≡ Some (json_items_data js)
   of_items-fit json.no_items e = refl
   of_items-fit (json.item j js) e =
-      let h = both (fits j) (items_fit js) e in
+      let h = both (json_has_whole_numbers j) (json_items_have_whole_numbers js) e in
       ap (option_and_then (λ d. option_map (item d) (of_items js))) (of_json-fits j h.0) ∙ ap (option_map (item (json_data j))) (of_items-fit js h.1)
 
-  of_members-fit : (ms : json.Members) (found : Members) → members_fit ms ≡ true → of_members ms found ≡ Some (json_members_data ms found)
+  of_members-fit : (ms : json.Members) (found : Members) → json_members_have_whole_numbers ms ≡ true → of_members ms found ≡ Some (json_members_data ms found)
   of_members-fit json.no_members found e = refl
   of_members-fit (json.member k j ms) found e =
-      let h = both (fits j) (members_fit ms) e in
+      let h = both (json_has_whole_numbers j) (json_members_have_whole_numbers ms) e in
       ap (option_and_then (λ d. of_members ms (put k d found))) (of_json-fits j h.0) ∙ of_members-fit ms (put k (json_data j) found) h.1
 
 both_of : (a b : Bool) → a ≡ true → b ≡ true → (a && b) ≡ true
@@ -62,7 +62,7 @@ put-whole k d (member l e ms) h old =
     put_at-whole (slice_cmp nat_cmp k l) k l d e ms h old (put-whole k d ms h (both (has_whole_numbers e) (members_have_whole_numbers ms) old).1)
 
 mutual
-  pub has_whole_numbers-fits : (j : json.Json) → fits j ≡ true → has_whole_numbers (json_data j) ≡ true
+  pub has_whole_numbers-fits : (j : json.Json) → json_has_whole_numbers j ≡ true → has_whole_numbers (json_data j) ≡ true
   has_whole_numbers-fits json.null e = refl
   has_whole_numbers-fits (json.boolean b) e = refl
   has_whole_numbers-fits (json.number s) e = e
@@ -70,17 +70,17 @@ mutual
   has_whole_numbers-fits (json.array js) e = items_whole-fits js e
   has_whole_numbers-fits (json.object ms) e = members_whole-fits ms no_members e refl
 
-  items_whole-fits : (js : json.Items) → items_fit js ≡ true → items_have_whole_numbers (json_items_data js) ≡ true
+  items_whole-fits : (js : json.Items) → json_items_have_whole_numbers js ≡ true → items_have_whole_numbers (json_items_data js) ≡ true
   items_whole-fits json.no_items e = refl
   items_whole-fits (json.item j js) e =
-      let h = both (fits j) (items_fit js) e in
+      let h = both (json_has_whole_numbers j) (json_items_have_whole_numbers js) e in
       both_of (has_whole_numbers (json_data j)) (items_have_whole_numbers (json_items_data js)) (has_whole_numbers-fits j h.0) (items_whole-fits js h.1)
 
-  members_whole-fits : (ms : json.Members) (found : Members) → members_fit ms ≡ true → members_have_whole_numbers found ≡ true
+  members_whole-fits : (ms : json.Members) (found : Members) → json_members_have_whole_numbers ms ≡ true → members_have_whole_numbers found ≡ true
       → members_have_whole_numbers (json_members_data ms found) ≡ true
   members_whole-fits json.no_members found e old = old
   members_whole-fits (json.member k j ms) found e old =
-      let h = both (fits j) (members_fit ms) e in
+      let h = both (json_has_whole_numbers j) (json_members_have_whole_numbers ms) e in
       members_whole-fits ms (put k (json_data j) found) h.1 (put-whole k (json_data j) found (has_whole_numbers-fits j h.0) old)
 
 -- ---- a value that has data has these data
@@ -132,7 +132,7 @@ mutual
 -- ---- the numbers of a value without objects fit if those of its data do
 
 mutual
-  pub fits-lists : (j : json.Json) → has_no_object_and_whole_numbers (json_data j) ≡ true → fits j ≡ true
+  pub fits-lists : (j : json.Json) → has_no_object_and_whole_numbers (json_data j) ≡ true → json_has_whole_numbers j ≡ true
   fits-lists json.null e = refl
   fits-lists (json.boolean b) e = refl
   fits-lists (json.number s) e = e
@@ -140,8 +140,8 @@ mutual
   fits-lists (json.array js) e = items_fit-lists js e
   fits-lists (json.object ms) e = absurd (cc)
 
-  items_fit-lists : (js : json.Items) → items_have_no_object_and_whole_numbers (json_items_data js) ≡ true → items_fit js ≡ true
+  items_fit-lists : (js : json.Items) → items_have_no_object_and_whole_numbers (json_items_data js) ≡ true → json_items_have_whole_numbers js ≡ true
   items_fit-lists json.no_items e = refl
   items_fit-lists (json.item j js) e =
       let h = both (has_no_object_and_whole_numbers (json_data j)) (items_have_no_object_and_whole_numbers (json_items_data js)) e in
-      both_of (fits j) (items_fit js) (fits-lists j h.0) (items_fit-lists js h.1)
+      both_of (json_has_whole_numbers j) (json_items_have_whole_numbers js) (fits-lists j h.0) (items_fit-lists js h.1)

@@ -16,7 +16,7 @@ use Rattle.json.proofs.Unique.Spelling.{value-json_tokens_back}
 use Rattle.serde_json.specs.Data.{Data}
 use Rattle.symbols_ast.specs.declared.graph.raw.RawModule.{RawModule}
 use Rattle.symq_reader.specs.JsonData.{json_data, json_items_data}
-use Rattle.symq_reader.specs.inner.JsonData.{fits, items_fit}
+use Rattle.symq_reader.specs.inner.JsonData.{json_has_whole_numbers, json_items_have_whole_numbers}
 use Rattle.symq_reader.specs.GraphText.{as_module, raw_module_view, RawModuleView, RawGraphView, require_object, graph_of_json_fields, read_outcome_of_bytes}
 use Rattle.symq_reader.specs.inner.Streams.{items_joined, ConsumesItems, ReadsItems, ReadsMembers, SkipsToKey, list_in_optional_data}
 use Rattle.symq_reader.specs.inner.Pieces.{graph_text_opening, IsPieceCut, tokens_of_values, ConsumesValues, AreModulesAppended, ConsumesModule, ReadsPiece}
@@ -121,9 +121,11 @@ apart : (a b : Bool) → (a && b) ≡ true → (a ≡ true) × (b ≡ true)
 apart true b e = (refl, e)
 apart false b e = absurd (cc)
 
-joined_fit : (a b : Items) → items_fit a ≡ true → items_fit b ≡ true → items_fit (items_joined a b) ≡ true
+joined_fit : (a b : Items) → json_items_have_whole_numbers a ≡ true → json_items_have_whole_numbers b ≡ true → json_items_have_whole_numbers (items_joined a b)
+    ≡ true
 joined_fit no_items b h k = k
-joined_fit (item j a) b h k = let p = apart (fits j) (items_fit a) h in both (fits j) (items_fit (items_joined a b)) p.0 (joined_fit a b p.1 k)
+joined_fit (item j a) b h k = let p = apart (json_has_whole_numbers j) (json_items_have_whole_numbers a) h
+    in both (json_has_whole_numbers j) (json_items_have_whole_numbers (items_joined a b)) p.0 (joined_fit a b p.1 k)
 
 first_then : {S : Type 0} (o : Option S) (front back : Option (List S)) (xs ys : List S) → ((zs : List S) → front ≡ Some zs → back ≡ Some (zs ++ ys))
     → option_and_then (λ z. option_map (λ zs. z ∷ zs) front) o ≡ Some xs → option_and_then (λ z. option_map (λ zs. z ∷ zs) back) o ≡ Some (xs ++ ys)

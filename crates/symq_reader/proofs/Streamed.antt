@@ -7,7 +7,7 @@ use Rattle.json.specs.Json.{Json, null, array, object, Items, no_items, item, Me
 use Rattle.json.proofs.Grammar.{left, value-begin_array, value-begin_object, value_is, skip_value-shorter}
 use Rattle.serde_json.specs.Data.{Data}
 use Rattle.symq_reader.specs.JsonData.{json_data, json_items_data}
-use Rattle.symq_reader.specs.inner.JsonData.{items_fit}
+use Rattle.symq_reader.specs.inner.JsonData.{json_items_have_whole_numbers}
 use Rattle.symq_reader.specs.inner.Streams.{items_joined, members_joined, ConsumesItems, SkipsToKey, ReadsMemberApart, list_in_optional_data}
 use Rattle.symq_reader.specs.inner.Streams.{value_in_optional_data, ReadsValue, ReadsItems, ReadsMembers}
 use Rattle.symq_reader.specs.UnderKeys.{read_each_item}
@@ -23,10 +23,11 @@ reads_shorter depth old new form x reads = skip_value-shorter depth old new (ap 
 -- ---- lists
 
 pub items_round : {S T : Type 0} (form : Data → Option S) (shape : T → S) (depth : ℕ) (old ts now r : List Token) (done : Items) (before after : List T) (x : T)
-    → ConsumesItems depth old done ts → items_fit done ≡ true
+    → ConsumesItems depth old done ts → json_items_have_whole_numbers done ≡ true
     → read_each_item form (json_items_data done) ≡ Some (map shape before) → after_end_array ts ≡ None → now ≡ ts → ReadsValue depth now r form (shape x)
     → after ≡ before ++ x ∷ []
-    → (new : Items) × ConsumesItems depth old new r × (items_fit new ≡ true) × (read_each_item form (json_items_data new) ≡ Some (map shape after))
+    → (new : Items) × ConsumesItems depth old new r × (json_items_have_whole_numbers new ≡ true)
+    × (read_each_item form (json_items_data new) ≡ Some (map shape after))
 items_round form shape depth old ts now r done before after x took fit are going same reads pushed =
     let j = reads.at in
     let is : value depth ts ≡ Some (j, r) = ap (value depth) (sym same) ∙ reads.read in (
@@ -37,7 +38,7 @@ items_round form shape depth old ts now r done before after x took fit are going
     )
 
 pub items_done : {S : Type 0} (form : Data → Option S) (depth : ℕ) (old ts r : List Token) (done : Items) (xs : List S) → ConsumesItems depth old done ts
-    → items_fit done ≡ true → read_each_item form (json_items_data done) ≡ Some xs
+    → json_items_have_whole_numbers done ≡ true → read_each_item form (json_items_data done) ≡ Some xs
     → after_end_array ts ≡ Some r → ReadsItems depth old r form xs
 items_done form depth old ts r done xs took fit are over = record { all = done; read = took_all_items depth old ts r done took over; fit = fit; are = are }
 

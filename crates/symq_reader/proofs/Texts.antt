@@ -17,7 +17,7 @@ use Rattle.symq_reader.specs.GraphText.{ok_or_fault, json_of_bytes, IsReadOutcom
 use Rattle.symq_reader.specs.Lists.{has_no_object_and_whole_numbers}
 use Rattle.symq_reader.specs.Numbers.{has_whole_numbers}
 use Rattle.symq_reader.specs.JsonData.{json_data}
-use Rattle.symq_reader.specs.inner.JsonData.{fits}
+use Rattle.symq_reader.specs.inner.JsonData.{json_has_whole_numbers}
 use Rattle.symq_reader.specs.inner.Reading.{IsReadResult}
 use Rattle.symq_reader.specs.inner.Streams.{ReadsValue}
 use Rattle.symq_reader.proofs.Outcomes.{json_of_bytes-read, read_outcome_of_json-read}
@@ -59,7 +59,7 @@ again_outcome bytes text j d r utf8 same all is whole gives =
 
 -- the outcome of a text whose numbers are all whole
 pub fitting_outcome : (bytes text : List ℕ) (j : Json) (r : Result RawGraph FormatFault) → IsUtf8 bytes → text ≡ bytes → value 127 (tokens text) ≡ Some (j, [])
-    → fits j ≡ true → IsReadResult raw_graph_view r (require_object graph_of_json_fields (json_data j))
+    → json_has_whole_numbers j ≡ true → IsReadResult raw_graph_view r (require_object graph_of_json_fields (json_data j))
     → IsReadOutcome r (read_outcome_of_bytes bytes)
 fitting_outcome bytes text j r utf8 same all fit gives =
     let found : read bytes ≡ Some (json_data j) = read_whole bytes text j same all ∙ of_json-fits j fit in
@@ -70,19 +70,21 @@ no_graph d broken = rw broken refl
 
 -- ---- a value of lists, strings and whole numbers
 
-pub fitting_value : (bytes text : List ℕ) (j : Json) → IsUtf8 bytes → text ≡ bytes → value 127 (tokens text) ≡ Some (j, []) → fits j ≡ true
+pub fitting_value : (bytes text : List ℕ) (j : Json) → IsUtf8 bytes → text ≡ bytes → value 127 (tokens text) ≡ Some (j, []) → json_has_whole_numbers j ≡ true
     → json_of_bytes bytes ≡ Some (json_data j)
 fitting_value bytes text j utf8 same all fit = json_of_bytes-read bytes (json_data j) utf8 (read_whole bytes text j same all ∙ of_json-fits j fit)
 
-not_lists : (j : Json) (b : Bool) → has_no_object_and_whole_numbers (json_data j) ≡ b → fits j ≡ false → has_no_object_and_whole_numbers (json_data j) ≡ false
+not_lists : (j : Json) (b : Bool) → has_no_object_and_whole_numbers (json_data j) ≡ b → json_has_whole_numbers j ≡ false
+    → has_no_object_and_whole_numbers (json_data j) ≡ false
 not_lists j true e misfits = absurd (let fit : true ≡ false = sym (fits-lists j e) ∙ misfits in cc)
 not_lists j false e misfits = e
 
-misfit_data : (j : Json) (o : Option Data) → of_json j ≡ o → fits j ≡ false → IfSome o (λ d. has_no_object_and_whole_numbers d ≡ false)
+misfit_data : (j : Json) (o : Option Data) → of_json j ≡ o → json_has_whole_numbers j ≡ false → IfSome o (λ d. has_no_object_and_whole_numbers d ≡ false)
 misfit_data j None e misfits = tt
 misfit_data j (Some d) e misfits = ap has_no_object_and_whole_numbers (sym (unescaped-of_json j d e)) ∙ not_lists j _ refl misfits
 
-pub misfitting_value : (bytes text : List ℕ) (j : Json) → IsUtf8 bytes → text ≡ bytes → value 127 (tokens text) ≡ Some (j, []) → fits j ≡ false
+pub misfitting_value : (bytes text : List ℕ) (j : Json) → IsUtf8 bytes → text ≡ bytes → value 127 (tokens text) ≡ Some (j, []) → json_has_whole_numbers j
+    ≡ false
     → IfSome (json_of_bytes bytes) (λ d. has_no_object_and_whole_numbers d ≡ false)
 misfitting_value bytes text j utf8 same all misfits =
     let same_read : json_of_bytes bytes ≡ of_json j = json_of_bytes-text bytes utf8 ∙ read_whole bytes text j same all in

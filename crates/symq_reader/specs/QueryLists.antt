@@ -5,11 +5,11 @@ use Rattle.symq_reader.specs.declared.query_list.ListTail.TheVariants.{Nothing, 
 use Rattle.symq_reader.specs.declared.query_list.QueryList.{QueryList}
 
 -- the items after the two strings
-abbrev pub list_tail_items : ListTail → Items
-list_tail_items Nothing = no_items
-list_tail_items (Number n) = item (number (unsigned n)) no_items
-list_tail_items (NumberAndText n text) = item (number (unsigned n)) (item (string text.now) no_items)
+abbrev pub items_after_two_strings : ListTail → Items
+items_after_two_strings Nothing = no_items
+items_after_two_strings (Number n) = item (number (unsigned n)) no_items
+items_after_two_strings (NumberAndText n text) = item (number (unsigned n)) (item (string text.now) no_items)
 
 -- the list as a JSON value
-abbrev pub query_list_json : QueryList → Data
-query_list_json list = array (item (string list.first.now) (item (string list.second.now) (list_tail_items list.tail)))
+abbrev pub query_array_json : QueryList → Data
+query_array_json list = array (item (string list.first.now) (item (string list.second.now) (items_after_two_strings list.tail)))

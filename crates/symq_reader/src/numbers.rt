@@ -9,7 +9,8 @@ ghost use Rattle.serde_json.specs.View.{members_view as data_members};
 ghost use Rattle.symq_reader.specs.Numbers.{has_whole_numbers, items_have_whole_numbers};
 ghost use Rattle.symq_reader.specs.Numbers.{members_have_whole_numbers};
 ghost use Rattle.symq_reader.specs.JsonData.{number_or_minus_one, value_data};
-ghost use Rattle.symq_reader.specs.inner.JsonData.{fits, items_fit, members_fit};
+ghost use Rattle.symq_reader.specs.inner.JsonData.{json_has_whole_numbers, json_items_have_whole_numbers};
+ghost use Rattle.symq_reader.specs.inner.JsonData.{json_members_have_whole_numbers};
 ghost use Rattle.symq_reader.specs.UnderKeys.{as_u64_number, as_u32};
 
 use crate::short_numbers::short_number;
@@ -121,7 +122,7 @@ pub fn as_u32(value: &Value<'_>) -> Option<u32>
 /// later key replaces count too.
 #[cycle(fits)]
 pub(crate) fn fits(value: &Value<'_>) -> bool
-    ensures { result ≡ fits (value_view value.now) }
+    ensures { result ≡ json_has_whole_numbers (value_view value.now) }
 {
     match value {
         Value::Number(digits) => whole(digits).is_some(),
@@ -133,7 +134,7 @@ pub(crate) fn fits(value: &Value<'_>) -> bool
 
 #[cycle(fits)]
 fn items_fit(items: &Vec<Value<'_>>) -> bool
-    ensures { result ≡ items_fit (items_view items.now.items) }
+    ensures { result ≡ json_items_have_whole_numbers (items_view items.now.items) }
 {
     for item in items {
         if !fits(item) {
@@ -145,7 +146,7 @@ fn items_fit(items: &Vec<Value<'_>>) -> bool
 
 #[cycle(fits)]
 fn members_fit(members: &Vec<(&str, Value<'_>)>) -> bool
-    ensures { result ≡ members_fit (members_view members.now.items) }
+    ensures { result ≡ json_members_have_whole_numbers (members_view members.now.items) }
 {
     for member in members {
         if !fits(&member.1) {

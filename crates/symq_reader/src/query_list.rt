@@ -12,9 +12,9 @@ ghost use Rattle.json.specs.Print.{quoted};
 ghost use Rattle.json.specs.Run.{is_plain};
 ghost use Rattle.json.specs.Written.{PlainBetween};
 ghost use Rattle.symq_reader.specs.GraphText.{json_of_bytes};
-ghost use Rattle.symq_reader.specs.QueryLists.{query_list_json};
-ghost use Rattle.symq_reader.specs.inner.ListTexts.{IsAfterComma, IsListTailText, IsListText};
-ghost use Rattle.symq_reader.specs.inner.ListTexts.{IsValidListTail};
+ghost use Rattle.symq_reader.specs.QueryLists.{query_array_json};
+ghost use Rattle.symq_reader.specs.inner.ListTexts.{IsAfterComma, IsTextAfterTwoStrings, IsQueryArrayText};
+ghost use Rattle.symq_reader.specs.inner.ListTexts.{HasU64NumberAndUtf8Text};
 
 use crate::ends::after;
 use crate::needs_no_escape::needs_no_escape;
@@ -116,8 +116,8 @@ fn quoted_keyword(bytes: &[u8]) -> Option<(&str, &[u8])>
 
 /// Returns the items after the two strings; `None` if the bytes up to the end are unsupported.
 fn list_tail(bytes: &[u8]) -> Option<ListTail<'_>>
-    ensures text { IfSome result (IsListTailText bytes.now) }
-    ensures sound { IfSome result IsValidListTail }
+    ensures text { IfSome result (IsTextAfterTwoStrings bytes.now) }
+    ensures sound { IfSome result HasU64NumberAndUtf8Text }
 {
     if is_end(bytes) {
         return Some(ListTail::Nothing);
@@ -136,9 +136,9 @@ fn list_tail(bytes: &[u8]) -> Option<ListTail<'_>>
 
 /// Returns the list that the bytes are; `None` if they are unsupported.
 fn list_in(bytes: &[u8]) -> Option<QueryList<'_>>
-    ensures text { IfSome result (IsListText bytes.now) }
+    ensures text { IfSome result (IsQueryArrayText bytes.now) }
     ensures sound { IfSome result (λ found. IsUtf8 found.first.now × IsUtf8 found.second.now
-        × IsValidListTail found.tail) }
+        × HasU64NumberAndUtf8Text found.tail) }
 {
     let (first, rest) = quoted_keyword(after(bytes, b'[')?)?;
     let (second, rest) = quoted(after_comma(rest)?)?;
@@ -155,7 +155,7 @@ fn list_in(bytes: &[u8]) -> Option<QueryList<'_>>
 /// `None` doesn't mean that the line is no query: strings with escapes and other spacing are
 /// unsupported here.
 pub fn read_query_list(bytes: &[u8]) -> Option<QueryList<'_>>
-    ensures { IfSome result (λ found. json_of_bytes bytes.now ≡ Some (query_list_json found)) }
+    ensures { IfSome result (λ found. json_of_bytes bytes.now ≡ Some (query_array_json found)) }
 {
     list_in(bytes)
 }

@@ -10,10 +10,10 @@ use Rattle.std.proofs.lemmas.Option.{none-some, same_Some, slice_get_cases}
 use Rattle.symbols_ast.specs.Graph.{GraphView, resolved_dependency}
 use Rattle.symbols_nodes.specs.References.{SymbolReference, id, qualified_id, import_type}
 use Rattle.symbols_table.specs.Analysis.{symbol_count}
-use Rattle.symbols_table.specs.Changes.{parents_after}
+use Rattle.symbols_table.specs.Changes.{parents_after_changes}
 use Rattle.symbols_table.specs.DeclViews.{FileDepNameView, FileDepView, DeclKindView, target, qualified_target, file_ref, definition, Declaration, decl_kind_dep}
 use Rattle.symbols_table.specs.SymbolViews.{SymbolView, symbol_from_changes}
-use Rattle.symbols_root.specs.GraphModules.{changes_of_module}
+use Rattle.symbols_root.specs.GraphModules.{table_changes_of_module}
 use Rattle.symbols_root.specs.TypesChains.{resolved_module_specifier}
 use Rattle.symbols_exports.specs.StarStatements.{star_specifiers}
 use Rattle.symbols_paths.specs.PathTrees.{SymbolBySpecifier}
@@ -21,10 +21,11 @@ use Rattle.symbols_paths.specs.DeclTargets.{declarations_of}
 use Rattle.symbols_answers.specs.Questions.{QuestionView, query_module, query_exports, query_names, query_symbol, query_name}
 use Rattle.symbols_answers.specs.Questions.{query_deps, query_paths, query_definitions, query_leaves, query_resolve}
 use Rattle.symbols_answers.specs.QueryReach.{IsFollowedBySearch, star_specifier_is_followed, import_specifier_is_followed, import_type_specifier_is_followed}
-use Rattle.symbols_answers.specs.QueryReach.{specifiers_followed_by_question}
-use Rattle.symbols_answers.specs.InputLists.{with_found_specifier, with_targets, declarations_in_module, import_specifiers_among}
-use Rattle.symbols_answers.specs.InputLists.{import_specifiers, star_and_import_specifiers, followed_specifiers, import_type_specifier, resolved_import_type}
-use Rattle.symbols_answers.specs.laws.Walks.{with_specifiers}
+use Rattle.symbols_answers.specs.QueryReach.{IsSpecifierFollowedForQuestion}
+use Rattle.symbols_answers.specs.InputLists.{append_optional_specifier_if_absent, append_resolved_specifiers, declarations_in_module, import_specifiers_among}
+use Rattle.symbols_answers.specs.InputLists.{import_specifiers, star_and_import_specifiers, followed_specifiers, import_type_specifier}
+use Rattle.symbols_answers.specs.InputLists.{import_type_specifier_of_question}
+use Rattle.symbols_answers.specs.laws.Walks.{append_specifiers_if_absent}
 
 -- ---- elements of lists
 
@@ -36,9 +37,10 @@ contains_later : {A : Type 0} (x : A) (xs : List A) (y : A) → Contains xs y �
 contains_later x xs y has = (suc has.0, omega (arith, has.1), has.2)
 
 -- an element of a filtered list is the image of an element, and each image is one
-pub filtered_from : {A B : Type 0} (f : A → Option B) (xs : List A) (y : B) → Contains (filter_map f xs) y → (x : A) × Contains xs x × (f x ≡ Some y)
-filtered_from f [] y has = absurd (omega (arith, has.1))
-filtered_from {A} {B} f (x ∷ xs) y has = by (f x) refl has (λ later. filtered_from f xs y later)
+pub filter_map_element_is_image : {A B : Type 0} (f : A → Option B) (xs : List A) (y : B) → Contains (filter_map f xs) y → (x : A) × Contains xs x
+    × (f x ≡ Some y)
+filter_map_element_is_image f [] y has = absurd (omega (arith, has.1))
+filter_map_element_is_image {A} {B} f (x ∷ xs) y has = by (f x) refl has (λ later. filter_map_element_is_image f xs y later)
   where
     by : (found : Option B) → f x ≡ found → Contains (cons_option found (filter_map f xs)) y
         → (Contains (filter_map f xs) y → (w : A) × Contains xs w × (f w ≡ Some y)) → (w : A) × Contains (x ∷ xs) w × (f w ≡ Some y)
@@ -48,11 +50,11 @@ filtered_from {A} {B} f (x ∷ xs) y has = by (f x) refl has (λ later. filtered
       | inr after_first ↦ let from = later after_first in (from.0, contains_later x xs from.0 from.1, from.2)
     ]
 
-pub filtered_has : {A B : Type 0} (f : A → Option B) (xs : List A) (x : A) (y : B) → Contains xs x → f x ≡ Some y → Contains (filter_map f xs) y
-filtered_has f [] x y has is = absurd (omega (arith, has.1))
-filtered_has {A} {B} f (w ∷ xs) x y has is = elim (first_or_later w xs x has) [
+pub filter_map_contains_image : {A B : Type 0} (f : A → Option B) (xs : List A) (x : A) (y : B) → Contains xs x → f x ≡ Some y → Contains (filter_map f xs) y
+filter_map_contains_image f [] x y has is = absurd (omega (arith, has.1))
+filter_map_contains_image {A} {B} f (w ∷ xs) x y has is = elim (first_or_later w xs x has) [
   | inl same ↦ subst (λ (found : Option B). Contains (cons_option found (filter_map f xs)) y) (sym (ap f same ∙ is)) (0, omega arith, refl)
-  | inr later ↦ by (f w) (filtered_has f xs x y later is)
+  | inr later ↦ by (f w) (filter_map_contains_image f xs x y later is)
 ]
   where
     by : (found : Option B) → Contains (filter_map f xs) y → Contains (cons_option found (filter_map f xs)) y
@@ -60,18 +62,20 @@ filtered_has {A} {B} f (w ∷ xs) x y has is = elim (first_or_later w xs x has) 
     by (Some z) there = contains_later z (filter_map f xs) y there
 
 -- an element of joined lists is one of a list, and each is one
-pub joined_from : {A B : Type 0} (f : A → List B) (xs : List A) (y : B) → Contains (flat_map f xs) y → (x : A) × Contains xs x × Contains (f x) y
-joined_from f [] y has = absurd (omega (arith, has.1))
-joined_from f (x ∷ xs) y has = elim (Contains-append_cases (f x) (flat_map f xs) y has) [
+pub flat_map_element_is_in_image : {A B : Type 0} (f : A → List B) (xs : List A) (y : B) → Contains (flat_map f xs) y → (x : A) × Contains xs x
+    × Contains (f x) y
+flat_map_element_is_in_image f [] y has = absurd (omega (arith, has.1))
+flat_map_element_is_in_image f (x ∷ xs) y has = elim (Contains-append_cases (f x) (flat_map f xs) y has) [
   | inl here ↦ (x, (0, omega arith, refl), here)
-  | inr later ↦ let from = joined_from f xs y later in (from.0, contains_later x xs from.0 from.1, from.2)
+  | inr later ↦ let from = flat_map_element_is_in_image f xs y later in (from.0, contains_later x xs from.0 from.1, from.2)
 ]
 
-pub joined_has : {A B : Type 0} (f : A → List B) (xs : List A) (x : A) (y : B) → Contains xs x → Contains (f x) y → Contains (flat_map f xs) y
-joined_has f [] x y has there = absurd (omega (arith, has.1))
-joined_has f (w ∷ xs) x y has there = elim (first_or_later w xs x has) [
+pub flat_map_contains_element_of_image : {A B : Type 0} (f : A → List B) (xs : List A) (x : A) (y : B) → Contains xs x → Contains (f x) y
+    → Contains (flat_map f xs) y
+flat_map_contains_element_of_image f [] x y has there = absurd (omega (arith, has.1))
+flat_map_contains_element_of_image f (w ∷ xs) x y has there = elim (first_or_later w xs x has) [
   | inl same ↦ Contains-append_left (f w) (flat_map f xs) y (subst (λ v. Contains (f v) y) (sym same) there)
-  | inr later ↦ Contains-append_right (f w) (flat_map f xs) y (joined_has f xs x y later there)
+  | inr later ↦ Contains-append_right (f w) (flat_map f xs) y (flat_map_contains_element_of_image f xs x y later there)
 ]
 
 mapped_from : {A B : Type 0} (f : A → B) (xs : List A) (y : B) → Contains (map f xs) y → (x : A) × (f x ≡ y)
@@ -83,19 +87,22 @@ mapped_from f (x ∷ xs) y has = elim (first_or_later (f x) (map f xs) y has) [
 
 -- ---- what specifiers resolve to, as a list of those that are added
 
-pub one_added : (xs : List (List ℕ)) (found : Option (List ℕ)) → with_found_specifier xs found ≡ with_specifiers xs (cons_option found [])
-one_added xs None = refl
-one_added xs (Some k) = refl
+pub append_optional_is_append_list : (xs : List (List ℕ)) (found : Option (List ℕ)) → append_optional_specifier_if_absent xs found
+    ≡ append_specifiers_if_absent xs (cons_option found [])
+append_optional_is_append_list xs None = refl
+append_optional_is_append_list xs (Some k) = refl
 
-pub targets_added : (graph : GraphView) (referrer : List ℕ) (texts xs : List (List ℕ))
-    → with_targets graph referrer xs texts ≡ with_specifiers xs (filter_map (resolved_dependency graph referrer) texts)
-targets_added graph referrer [] xs = refl
-targets_added graph referrer (t ∷ texts) xs =
-    by (resolved_dependency graph referrer t) (targets_added graph referrer texts (with_found_specifier xs (resolved_dependency graph referrer t)))
+pub append_resolved_is_append_list : (graph : GraphView) (referrer : List ℕ) (texts xs : List (List ℕ))
+    → append_resolved_specifiers graph referrer xs texts ≡ append_specifiers_if_absent xs (filter_map (resolved_dependency graph referrer) texts)
+append_resolved_is_append_list graph referrer [] xs = refl
+append_resolved_is_append_list graph referrer (t ∷ texts) xs =
+    by (resolved_dependency graph referrer t) (append_resolved_is_append_list graph referrer texts
+    (append_optional_specifier_if_absent xs (resolved_dependency graph referrer t)))
   where
-    by : (found : Option (List ℕ)) → with_targets graph referrer (with_found_specifier xs found) texts ≡ with_specifiers (with_found_specifier xs found)
-        (filter_map (resolved_dependency graph referrer) texts) → with_targets graph referrer (with_found_specifier xs found) texts ≡ with_specifiers xs
-        (cons_option found (filter_map (resolved_dependency graph referrer) texts))
+    by : (found : Option (List ℕ)) → append_resolved_specifiers graph referrer (append_optional_specifier_if_absent xs found) texts
+        ≡ append_specifiers_if_absent (append_optional_specifier_if_absent xs found)
+        (filter_map (resolved_dependency graph referrer) texts) → append_resolved_specifiers graph referrer (append_optional_specifier_if_absent xs found) texts
+        ≡ append_specifiers_if_absent xs (cons_option found (filter_map (resolved_dependency graph referrer) texts))
     by None later = later
     by (Some k) later = later
 
@@ -115,26 +122,27 @@ import_of decl specifier_text is = by decl.kind refl is
 
 -- a symbol with a declaration is one of the module's symbols
 numbered : (graph : GraphView) (s : SymbolBySpecifier) (decl : Declaration) → Contains (declarations_of graph s) decl
-    → s.number.0 < symbol_count (changes_of_module graph s.specifier)
-numbered graph s decl has = elim (slice_get_cases (parents_after (changes_of_module graph s.specifier)) s.number.0).1 [
+    → s.number.0 < symbol_count (table_changes_of_module graph s.specifier)
+numbered graph s decl has = elim (slice_get_cases (parents_after_changes (table_changes_of_module graph s.specifier)) s.number.0).1 [
   | inl found ↦ found.1
   | inr past ↦ absurd (let nothing : Contains {X = Declaration} [] decl =
       subst (λ (found : Option (Option _)). Contains (option_map_or (λ (symbol : SymbolView). symbol.decls)
-      (option_map (symbol_from_changes (changes_of_module graph s.specifier) s.number) found) []) decl) past.1 has in omega (arith, nothing.1))
+      (option_map (symbol_from_changes (table_changes_of_module graph s.specifier) s.number) found) []) decl) past.1 has in omega (arith, nothing.1))
 ]
 
-pub import_has : (graph : GraphView) (s : SymbolBySpecifier) (decl : Declaration) (name : FileDepNameView) (specifier_text : List ℕ)
+pub import_specifiers_contain_each_import : (graph : GraphView) (s : SymbolBySpecifier) (decl : Declaration) (name : FileDepNameView) (specifier_text : List ℕ)
     → Contains (declarations_of graph s) decl → decl.kind ≡ file_ref name specifier_text → Contains (import_specifiers graph s.specifier) specifier_text
-import_has graph s decl name specifier_text has is =
-    let count = symbol_count (changes_of_module graph s.specifier) in
+import_specifiers_contain_each_import graph s decl name specifier_text has is =
+    let count = symbol_count (table_changes_of_module graph s.specifier) in
     let within = numbered graph s decl has in
-    joined_has import_specifiers_among (declarations_in_module graph s.specifier) (declarations_of graph s) specifier_text (
+    flat_map_contains_element_of_image import_specifiers_among (declarations_in_module graph s.specifier) (declarations_of graph s) specifier_text (
       s.number.0,
       omega (arith, within, length-map-range_with_len (λ n. declarations_of graph (record { specifier = s.specifier; number = record { 0 = n } })) 0 count),
       get_or-map-range_with_len (λ n. declarations_of graph (record { specifier = s.specifier; number = record { 0 = n } })) 0 count s.number.0 s.number.0
           (declarations_of graph s) within (omega arith),
     )
-    (filtered_has (λ (d : Declaration). option_map (λ (dep : FileDepView). dep.specifier) (decl_kind_dep d.kind)) (declarations_of graph s) decl specifier_text
+    (filter_map_contains_image (λ (d : Declaration). option_map (λ (dep : FileDepView). dep.specifier) (decl_kind_dep d.kind)) (declarations_of graph s) decl
+    specifier_text
     has (ap (λ (kind : DeclKindView). option_map (λ (dep : FileDepView). dep.specifier) (decl_kind_dep kind)) is))
 
 -- ---- what a question follows
@@ -147,10 +155,11 @@ module _ (graph : GraphView) (queried : List ℕ) where
       elim (Contains-append_cases (star_specifiers graph specifier) (import_specifiers graph specifier) specifier_text has) [
         | inl star ↦ star_specifier_is_followed star
         | inr imported ↦
-            let joined = joined_from import_specifiers_among (declarations_in_module graph specifier) specifier_text imported in
-            let numbers = range_with_len 0 (symbol_count (changes_of_module graph specifier)) in
+            let joined = flat_map_element_is_in_image import_specifiers_among (declarations_in_module graph specifier) specifier_text imported in
+            let numbers = range_with_len 0 (symbol_count (table_changes_of_module graph specifier)) in
             let number = mapped_from (λ n. declarations_of graph (record { specifier = specifier; number = record { 0 = n } })) numbers joined.0 joined.1 in
-            let found = filtered_from (λ (d : Declaration). option_map (λ (dep : FileDepView). dep.specifier) (decl_kind_dep d.kind)) joined.0 specifier_text
+            let found = filter_map_element_is_image (λ (d : Declaration). option_map (λ (dep : FileDepView). dep.specifier) (decl_kind_dep d.kind)) joined.0
+            specifier_text
             joined.2 in
             let kind = import_of found.0 specifier_text found.2 in
             import_specifier_is_followed (record { specifier = specifier; number = record { 0 = number.0 } }) found.0 kind.0
@@ -158,32 +167,34 @@ module _ (graph : GraphView) (queried : List ℕ) where
       ]
 
   -- the specifier is that of the import type in the queried module
-  abbrev pub IsImportTypeFollowed : QuestionView → List ℕ → List ℕ → Type 0
-  IsImportTypeFollowed question specifier specifier_text = (resolved_module_specifier graph queried ≡ Some specifier)
-      × (resolved_import_type question ≡ Some specifier_text)
+  abbrev pub IsImportTypeSpecifierOfQueried : QuestionView → List ℕ → List ℕ → Type 0
+  IsImportTypeSpecifierOfQueried question specifier specifier_text = (resolved_module_specifier graph queried ≡ Some specifier)
+      × (import_type_specifier_of_question question ≡ Some specifier_text)
 
   followed_by_search : (question : QuestionView) (specifier specifier_text : List ℕ) → IsFollowedBySearch graph queried question specifier specifier_text
-      → Contains (star_and_import_specifiers graph specifier) specifier_text ⊎ IsImportTypeFollowed question specifier specifier_text
+      → Contains (star_and_import_specifiers graph specifier) specifier_text ⊎ IsImportTypeSpecifierOfQueried question specifier specifier_text
   followed_by_search question specifier specifier_text (star_specifier_is_followed star) =
       inl (Contains-append_left (star_specifiers graph specifier) (import_specifiers graph specifier) specifier_text star)
   followed_by_search question specifier specifier_text (import_specifier_is_followed s decl name has is) =
       inl (Contains-append_right (star_specifiers graph s.specifier) (import_specifiers graph s.specifier) specifier_text
-      (import_has graph s decl name specifier_text has is))
-  followed_by_search question specifier specifier_text (import_type_specifier_is_followed parts resolved is) = inr (resolved, ap resolved_import_type is)
+      (import_specifiers_contain_each_import graph s decl name specifier_text has is))
+  followed_by_search question specifier specifier_text (import_type_specifier_is_followed parts resolved is) =
+      inr (resolved, ap import_type_specifier_of_question is)
 
   -- each specifier of the list is followed
-  pub list_followed : (question : QuestionView) (specifier specifier_text : List ℕ) → Contains (followed_specifiers graph question specifier) specifier_text
-      → specifiers_followed_by_question graph queried question specifier specifier_text
-  list_followed query_module specifier specifier_text has = omega (arith, has.1)
-  list_followed query_exports specifier specifier_text has = has
-  list_followed query_names specifier specifier_text has = has
-  list_followed (query_symbol name) specifier specifier_text has = omega (arith, has.1)
-  list_followed (query_name s) specifier specifier_text has = omega (arith, has.1)
-  list_followed (query_deps s mode) specifier specifier_text has = omega (arith, has.1)
-  list_followed (query_paths s) specifier specifier_text has = search_follows (query_paths s) specifier specifier_text has
-  list_followed (query_definitions s) specifier specifier_text has = search_follows (query_definitions s) specifier specifier_text has
-  list_followed (query_leaves s) specifier specifier_text has = search_follows (query_leaves s) specifier specifier_text has
-  list_followed (query_resolve reference) specifier specifier_text has = search_follows (query_resolve reference) specifier specifier_text has
+  pub listed_specifiers_are_followed : (question : QuestionView) (specifier specifier_text : List ℕ) → Contains (followed_specifiers graph question specifier)
+      specifier_text
+      → IsSpecifierFollowedForQuestion graph queried question specifier specifier_text
+  listed_specifiers_are_followed query_module specifier specifier_text has = omega (arith, has.1)
+  listed_specifiers_are_followed query_exports specifier specifier_text has = has
+  listed_specifiers_are_followed query_names specifier specifier_text has = has
+  listed_specifiers_are_followed (query_symbol name) specifier specifier_text has = omega (arith, has.1)
+  listed_specifiers_are_followed (query_name s) specifier specifier_text has = omega (arith, has.1)
+  listed_specifiers_are_followed (query_deps s mode) specifier specifier_text has = omega (arith, has.1)
+  listed_specifiers_are_followed (query_paths s) specifier specifier_text has = search_follows (query_paths s) specifier specifier_text has
+  listed_specifiers_are_followed (query_definitions s) specifier specifier_text has = search_follows (query_definitions s) specifier specifier_text has
+  listed_specifiers_are_followed (query_leaves s) specifier specifier_text has = search_follows (query_leaves s) specifier specifier_text has
+  listed_specifiers_are_followed (query_resolve reference) specifier specifier_text has = search_follows (query_resolve reference) specifier specifier_text has
 
   import_type_is : (reference : SymbolReference) (specifier specifier_text : List ℕ) → resolved_module_specifier graph queried ≡ Some specifier
       → import_type_specifier reference ≡ Some specifier_text → IsFollowedBySearch graph queried (query_resolve reference) specifier specifier_text
@@ -193,31 +204,33 @@ module _ (graph : GraphView) (queried : List ℕ) where
       import_type_specifier_is_followed parts resolved (ap (λ t. query_resolve (import_type t parts)) (same_Some text specifier_text is))
 
   -- and that of the import type
-  pub import_type_followed : (question : QuestionView) (specifier specifier_text : List ℕ) → IsImportTypeFollowed question specifier specifier_text
-      → specifiers_followed_by_question graph queried question specifier specifier_text
-  import_type_followed query_module specifier specifier_text is = absurd (none-some specifier_text is.1)
-  import_type_followed query_exports specifier specifier_text is = absurd (none-some specifier_text is.1)
-  import_type_followed query_names specifier specifier_text is = absurd (none-some specifier_text is.1)
-  import_type_followed (query_symbol name) specifier specifier_text is = absurd (none-some specifier_text is.1)
-  import_type_followed (query_name s) specifier specifier_text is = absurd (none-some specifier_text is.1)
-  import_type_followed (query_deps s mode) specifier specifier_text is = absurd (none-some specifier_text is.1)
-  import_type_followed (query_paths s) specifier specifier_text is = absurd (none-some specifier_text is.1)
-  import_type_followed (query_definitions s) specifier specifier_text is = absurd (none-some specifier_text is.1)
-  import_type_followed (query_leaves s) specifier specifier_text is = absurd (none-some specifier_text is.1)
-  import_type_followed (query_resolve reference) specifier specifier_text is = import_type_is reference specifier specifier_text is.0 is.1
+  pub import_type_of_question_is_followed : (question : QuestionView) (specifier specifier_text : List ℕ) → IsImportTypeSpecifierOfQueried question specifier
+      specifier_text
+      → IsSpecifierFollowedForQuestion graph queried question specifier specifier_text
+  import_type_of_question_is_followed query_module specifier specifier_text is = absurd (none-some specifier_text is.1)
+  import_type_of_question_is_followed query_exports specifier specifier_text is = absurd (none-some specifier_text is.1)
+  import_type_of_question_is_followed query_names specifier specifier_text is = absurd (none-some specifier_text is.1)
+  import_type_of_question_is_followed (query_symbol name) specifier specifier_text is = absurd (none-some specifier_text is.1)
+  import_type_of_question_is_followed (query_name s) specifier specifier_text is = absurd (none-some specifier_text is.1)
+  import_type_of_question_is_followed (query_deps s mode) specifier specifier_text is = absurd (none-some specifier_text is.1)
+  import_type_of_question_is_followed (query_paths s) specifier specifier_text is = absurd (none-some specifier_text is.1)
+  import_type_of_question_is_followed (query_definitions s) specifier specifier_text is = absurd (none-some specifier_text is.1)
+  import_type_of_question_is_followed (query_leaves s) specifier specifier_text is = absurd (none-some specifier_text is.1)
+  import_type_of_question_is_followed (query_resolve reference) specifier specifier_text is = import_type_is reference specifier specifier_text is.0 is.1
 
   -- and no others are
-  pub followed_listed : (question : QuestionView) (specifier specifier_text : List ℕ)
-      → specifiers_followed_by_question graph queried question specifier specifier_text
-      → Contains (followed_specifiers graph question specifier) specifier_text ⊎ IsImportTypeFollowed question specifier specifier_text
-  followed_listed query_module specifier specifier_text follows = absurd follows
-  followed_listed query_exports specifier specifier_text follows = inl follows
-  followed_listed query_names specifier specifier_text follows = inl follows
-  followed_listed (query_symbol name) specifier specifier_text follows = absurd follows
-  followed_listed (query_name s) specifier specifier_text follows = absurd follows
-  followed_listed (query_deps s mode) specifier specifier_text follows = absurd follows
-  followed_listed (query_paths s) specifier specifier_text follows = followed_by_search (query_paths s) specifier specifier_text follows
-  followed_listed (query_definitions s) specifier specifier_text follows = followed_by_search (query_definitions s) specifier specifier_text follows
-  followed_listed (query_leaves s) specifier specifier_text follows = followed_by_search (query_leaves s) specifier specifier_text follows
-  followed_listed (query_resolve reference) specifier specifier_text follows =
+  pub followed_specifiers_are_listed : (question : QuestionView) (specifier specifier_text : List ℕ)
+      → IsSpecifierFollowedForQuestion graph queried question specifier specifier_text
+      → Contains (followed_specifiers graph question specifier) specifier_text ⊎ IsImportTypeSpecifierOfQueried question specifier specifier_text
+  followed_specifiers_are_listed query_module specifier specifier_text follows = absurd follows
+  followed_specifiers_are_listed query_exports specifier specifier_text follows = inl follows
+  followed_specifiers_are_listed query_names specifier specifier_text follows = inl follows
+  followed_specifiers_are_listed (query_symbol name) specifier specifier_text follows = absurd follows
+  followed_specifiers_are_listed (query_name s) specifier specifier_text follows = absurd follows
+  followed_specifiers_are_listed (query_deps s mode) specifier specifier_text follows = absurd follows
+  followed_specifiers_are_listed (query_paths s) specifier specifier_text follows = followed_by_search (query_paths s) specifier specifier_text follows
+  followed_specifiers_are_listed (query_definitions s) specifier specifier_text follows = followed_by_search (query_definitions s) specifier specifier_text
+      follows
+  followed_specifiers_are_listed (query_leaves s) specifier specifier_text follows = followed_by_search (query_leaves s) specifier specifier_text follows
+  followed_specifiers_are_listed (query_resolve reference) specifier specifier_text follows =
       followed_by_search (query_resolve reference) specifier specifier_text follows

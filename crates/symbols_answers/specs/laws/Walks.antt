@@ -10,87 +10,92 @@ use Rattle.std.proofs.lemmas.List.Elements.{Contains-append_left, Contains-push,
 use Rattle.std.proofs.lemmas.Map.Keys.{IsDistinct-push}
 use Rattle.std.proofs.lemmas.Option.{slice_get_cases, get_or_from_slice_get}
 use Rattle.symbols_root.specs.Specifiers.{contains_specifier}
-use Rattle.symbols_root.specs.laws.Specifiers.{laws, specifier_index_if_contained}
-use Rattle.symbols_answers.specs.InputLists.{with_specifier, walk_from}
+use Rattle.symbols_root.specs.laws.Specifiers.{bytes_eq_is_equivalence, specifier_index_if_contained}
+use Rattle.symbols_answers.specs.InputLists.{append_specifier_if_absent, list_grown_by_walk_from_index}
 
 -- ---- one more
 
 -- a specifier that the test finds is in the list
-pub among_contained : (xs : List (List ℕ)) (k : List ℕ) → contains_specifier xs k ≡ true → Contains xs k
-among_contained xs k is = let at = specifier_index_if_contained xs k is in
+pub contains_if_contains_specifier : (xs : List (List ℕ)) (k : List ℕ) → contains_specifier xs k ≡ true → Contains xs k
+contains_if_contains_specifier xs k is = let at = specifier_index_if_contained xs k is in
     elim (slice_get_cases xs at.0).1 [
       | inl found ↦ (at.0, found.1, get_or_from_slice_get xs at.0 k k at.1)
       | inr past ↦ absurd (let no : None ≡ Some k = sym past.1 ∙ at.1 in cc)
     ]
 
-one_from : (xs : List (List ℕ)) (k x : List ℕ) → Contains (with_specifier xs k) x → Contains xs x ⊎ (k ≡ x)
+one_from : (xs : List (List ℕ)) (k x : List ℕ) → Contains (append_specifier_if_absent xs k) x → Contains xs x ⊎ (k ≡ x)
 one_from xs k x has = by (contains_specifier xs k) has
   where
     by : (b : Bool) → Contains (if b then xs else xs ++ k ∷ []) x → Contains xs x ⊎ (k ≡ x)
     by true here = inl here
     by false here = Contains-push_cases xs k x here
 
-one_left : (xs : List (List ℕ)) (k x : List ℕ) → Contains xs x → Contains (with_specifier xs k) x
+one_left : (xs : List (List ℕ)) (k x : List ℕ) → Contains xs x → Contains (append_specifier_if_absent xs k) x
 one_left xs k x has = by (contains_specifier xs k)
   where
     by : (b : Bool) → Contains (if b then xs else xs ++ k ∷ []) x
     by true = has
     by false = Contains-append_left xs (k ∷ []) x has
 
-one_right : (xs : List (List ℕ)) (k : List ℕ) → Contains (with_specifier xs k) k
+one_right : (xs : List (List ℕ)) (k : List ℕ) → Contains (append_specifier_if_absent xs k) k
 one_right xs k = by (contains_specifier xs k) refl
   where
     by : (b : Bool) → contains_specifier xs k ≡ b → Contains (if b then xs else xs ++ k ∷ []) k
-    by true is = among_contained xs k is
+    by true is = contains_if_contains_specifier xs k is
     by false is = Contains-push xs k
 
-one_distinct : (xs : List (List ℕ)) (k : List ℕ) → IsDistinct bytes_eq xs → IsDistinct bytes_eq (with_specifier xs k)
+one_distinct : (xs : List (List ℕ)) (k : List ℕ) → IsDistinct bytes_eq xs → IsDistinct bytes_eq (append_specifier_if_absent xs k)
 one_distinct xs k once = by (contains_specifier xs k) refl
   where
     by : (b : Bool) → contains_specifier xs k ≡ b → IsDistinct bytes_eq (if b then xs else xs ++ k ∷ [])
     by true is = once
-    by false is = IsDistinct-push laws xs k once is
+    by false is = IsDistinct-push bytes_eq_is_equivalence xs k once is
 
 -- the list begins with the other
 pub record BeginsWith (front list : List (List ℕ)) : Type 0 where
   pub added : List (List ℕ)
   pub is : list ≡ front ++ added
 
-pub begins_refl : (xs : List (List ℕ)) → BeginsWith xs xs
-begins_refl xs = record { added = []; is = sym (append-nil xs) }
+pub begins_with_refl : (xs : List (List ℕ)) → BeginsWith xs xs
+begins_with_refl xs = record { added = []; is = sym (append-nil xs) }
 
-pub begins_trans : (xs ys zs : List (List ℕ)) → BeginsWith xs ys → BeginsWith ys zs → BeginsWith xs zs
-begins_trans xs ys zs one two = record { added = one.added ++ two.added; is = two.is ∙ (ap (λ (list : List (List ℕ)). list ++ two.added) one.is ∙ append_assoc xs one.added two.added) }
+pub begins_with_trans : (xs ys zs : List (List ℕ)) → BeginsWith xs ys → BeginsWith ys zs → BeginsWith xs zs
+begins_with_trans xs ys zs one two = record {
+  added = one.added ++ two.added;
+  is = two.is
+      ∙ (ap (λ (list : List (List ℕ)). list ++ two.added) one.is ∙ append_assoc xs one.added two.added);
+}
 
-one_begins : (xs : List (List ℕ)) (k : List ℕ) → BeginsWith xs (with_specifier xs k)
+one_begins : (xs : List (List ℕ)) (k : List ℕ) → BeginsWith xs (append_specifier_if_absent xs k)
 one_begins xs k = by (contains_specifier xs k)
   where
     by : (b : Bool) → BeginsWith xs (if b then xs else xs ++ k ∷ [])
-    by true = begins_refl xs
+    by true = begins_with_refl xs
     by false = record { added = k ∷ []; is = refl }
 
-pub begun_longer : (xs ys : List (List ℕ)) → BeginsWith xs ys → length xs ≤ length ys
-begun_longer xs ys begins = omega (arith, ap length begins.is, length-append xs begins.added)
+pub beginning_is_not_longer : (xs ys : List (List ℕ)) → BeginsWith xs ys → length xs ≤ length ys
+beginning_is_not_longer xs ys begins = omega (arith, ap length begins.is, length-append xs begins.added)
 
-pub begun_at : (xs ys : List (List ℕ)) (i : ℕ) (d : List ℕ) → BeginsWith xs ys → i < length xs → get_or ys i d ≡ get_or xs i d
-begun_at xs ys i d begins within = ap (λ (list : List (List ℕ)). get_or list i d) begins.is ∙ get_or_append_left xs begins.added d i within
+pub beginning_agrees_at_index : (xs ys : List (List ℕ)) (i : ℕ) (d : List ℕ) → BeginsWith xs ys → i < length xs → get_or ys i d ≡ get_or xs i d
+beginning_agrees_at_index xs ys i d begins within = ap (λ (list : List (List ℕ)). get_or list i d) begins.is ∙ get_or_append_left xs begins.added d i within
 
-pub begun_contains : (xs ys : List (List ℕ)) (x : List ℕ) → BeginsWith xs ys → Contains xs x → Contains ys x
-begun_contains xs ys x begins has = subst (λ (list : List (List ℕ)). Contains list x) (sym begins.is) (Contains-append_left xs begins.added x has)
+pub elements_of_beginning_are_contained : (xs ys : List (List ℕ)) (x : List ℕ) → BeginsWith xs ys → Contains xs x → Contains ys x
+elements_of_beginning_are_contained xs ys x begins has = subst (λ (list : List (List ℕ)). Contains list x) (sym begins.is)
+    (Contains-append_left xs begins.added x has)
 
 -- ---- several more
 
 -- the list with each of these at its end, unless it has that already
-abbrev pub with_specifiers : List (List ℕ) → List (List ℕ) → List (List ℕ)
-with_specifiers xs ks = fold with_specifier xs ks
+abbrev pub append_specifiers_if_absent : List (List ℕ) → List (List ℕ) → List (List ℕ)
+append_specifiers_if_absent xs ks = fold append_specifier_if_absent xs ks
 
 first_of_list : (k : List ℕ) (ks : List (List ℕ)) (x : List ℕ) → Contains (k ∷ ks) x → (k ≡ x) ⊎ Contains ks x
 first_of_list k ks x (zero, within, same) = inl same
 first_of_list k ks x (suc i, within, same) = inr (i, omega (arith, within), same)
 
-pub several_from : (ks xs : List (List ℕ)) (x : List ℕ) → Contains (with_specifiers xs ks) x → Contains xs x ⊎ Contains ks x
-several_from [] xs x has = inl has
-several_from (k ∷ ks) xs x has = elim (several_from ks (with_specifier xs k) x has) [
+pub element_is_old_or_appended : (ks xs : List (List ℕ)) (x : List ℕ) → Contains (append_specifiers_if_absent xs ks) x → Contains xs x ⊎ Contains ks x
+element_is_old_or_appended [] xs x has = inl has
+element_is_old_or_appended (k ∷ ks) xs x has = elim (element_is_old_or_appended ks (append_specifier_if_absent xs k) x has) [
   | inl before ↦ elim (one_from xs k x before) [
     | inl old ↦ inl old
     | inr same ↦ inr (0, omega arith, same)
@@ -98,22 +103,24 @@ several_from (k ∷ ks) xs x has = elim (several_from ks (with_specifier xs k) x
   | inr later ↦ inr (suc later.0, omega (arith, later.1), later.2)
 ]
 
-pub several_begins : (ks xs : List (List ℕ)) → BeginsWith xs (with_specifiers xs ks)
-several_begins [] xs = begins_refl xs
-several_begins (k ∷ ks) xs =
-    begins_trans xs (with_specifier xs k) (with_specifiers (with_specifier xs k) ks) (one_begins xs k) (several_begins ks (with_specifier xs k))
+pub appended_list_begins_with_old : (ks xs : List (List ℕ)) → BeginsWith xs (append_specifiers_if_absent xs ks)
+appended_list_begins_with_old [] xs = begins_with_refl xs
+appended_list_begins_with_old (k ∷ ks) xs =
+    begins_with_trans xs (append_specifier_if_absent xs k) (append_specifiers_if_absent (append_specifier_if_absent xs k) ks) (one_begins xs k)
+    (appended_list_begins_with_old ks (append_specifier_if_absent xs k))
 
-pub several_right : (ks xs : List (List ℕ)) (x : List ℕ) → Contains ks x → Contains (with_specifiers xs ks) x
-several_right [] xs x has = absurd (omega (arith, has.1))
-several_right (k ∷ ks) xs x has = elim (first_of_list k ks x has) as (λ _. Contains (with_specifiers (with_specifier xs k) ks) x) [
-  | inl same ↦ begun_contains (with_specifier xs k) (with_specifiers (with_specifier xs k) ks) x (several_begins ks (with_specifier xs k))
-      (subst (Contains (with_specifier xs k)) same (one_right xs k))
-  | inr later ↦ several_right ks (with_specifier xs k) x later
-]
+pub appended_list_contains_each_new : (ks xs : List (List ℕ)) (x : List ℕ) → Contains ks x → Contains (append_specifiers_if_absent xs ks) x
+appended_list_contains_each_new [] xs x has = absurd (omega (arith, has.1))
+appended_list_contains_each_new (k ∷ ks) xs x has = elim (first_of_list k ks x has) as
+    (λ _. Contains (append_specifiers_if_absent (append_specifier_if_absent xs k) ks) x) [
+      | inl same ↦ elements_of_beginning_are_contained (append_specifier_if_absent xs k) (append_specifiers_if_absent (append_specifier_if_absent xs k) ks) x
+          (appended_list_begins_with_old ks (append_specifier_if_absent xs k)) (subst (Contains (append_specifier_if_absent xs k)) same (one_right xs k))
+      | inr later ↦ appended_list_contains_each_new ks (append_specifier_if_absent xs k) x later
+    ]
 
-pub several_distinct : (ks xs : List (List ℕ)) → IsDistinct bytes_eq xs → IsDistinct bytes_eq (with_specifiers xs ks)
-several_distinct [] xs once = once
-several_distinct (k ∷ ks) xs once = several_distinct ks (with_specifier xs k) (one_distinct xs k once)
+pub appended_list_is_distinct_if_old_was : (ks xs : List (List ℕ)) → IsDistinct bytes_eq xs → IsDistinct bytes_eq (append_specifiers_if_absent xs ks)
+appended_list_is_distinct_if_old_was [] xs once = once
+appended_list_is_distinct_if_old_was (k ∷ ks) xs once = appended_list_is_distinct_if_old_was ks (append_specifier_if_absent xs k) (one_distinct xs k once)
 
 same_or_less : (a b : ℕ) → a ≤ b → (a ≡ b) ⊎ (suc a ≤ b)
 same_or_less a b le = grind (arith, le)
@@ -121,122 +128,133 @@ same_or_less a b le = grind (arith, le)
 -- ---- walks
 
 -- the step at a specifier adds these
-pub record AddsAt (step : List ℕ → List (List ℕ) → List (List ℕ)) (nexts : List ℕ → List (List ℕ)) : Type 0 where
-  pub is : (key : List ℕ) (xs : List (List ℕ)) → step key xs ≡ with_specifiers xs (nexts key)
+pub record IsStepThatAppends (step : List ℕ → List (List ℕ) → List (List ℕ)) (nexts : List ℕ → List (List ℕ)) : Type 0 where
+  pub is : (key : List ℕ) (xs : List (List ℕ)) → step key xs ≡ append_specifiers_if_absent xs (nexts key)
 
 module _ (step : List ℕ → List (List ℕ) → List (List ℕ)) where
-  pub walk_over : (n position : ℕ) (xs : List (List ℕ)) → slice_get xs position ≡ None → walk_from step n position xs ≡ xs
-  unfolding walk_from
-  walk_over zero position xs past = refl
-  walk_over (suc n) position xs past =
-      ap (λ (found : Option (List ℕ)). option_map_or (λ key. walk_from step n (suc position) (step key xs)) found xs) past
+  pub walk_past_end_adds_nothing : (n position : ℕ) (xs : List (List ℕ)) → slice_get xs position ≡ None → list_grown_by_walk_from_index step n position xs ≡ xs
+  unfolding list_grown_by_walk_from_index
+  walk_past_end_adds_nothing zero position xs past = refl
+  walk_past_end_adds_nothing (suc n) position xs past =
+      ap (λ (found : Option (List ℕ)). option_map_or (λ key. list_grown_by_walk_from_index step n (suc position) (step key xs)) found xs) past
 
-  pub walk_on : (n position : ℕ) (xs : List (List ℕ)) (key : List ℕ) → slice_get xs position ≡ Some key
-      → walk_from step (suc n) position xs ≡ walk_from step n (suc position) (step key xs)
-  unfolding walk_from
-  walk_on n position xs key at = ap (λ (found : Option (List ℕ)). option_map_or (λ k. walk_from step n (suc position) (step k xs)) found xs) at
+  pub walk_takes_step_at_index : (n position : ℕ) (xs : List (List ℕ)) (key : List ℕ) → slice_get xs position ≡ Some key
+      → list_grown_by_walk_from_index step (suc n) position xs ≡ list_grown_by_walk_from_index step n (suc position) (step key xs)
+  unfolding list_grown_by_walk_from_index
+  walk_takes_step_at_index n position xs key at = ap (λ (found : Option (List ℕ)). option_map_or
+      (λ k. list_grown_by_walk_from_index step n (suc position) (step k xs)) found xs) at
 
-  pub walk_none : (position : ℕ) (xs : List (List ℕ)) → walk_from step zero position xs ≡ xs
-  unfolding walk_from
-  walk_none position xs = refl
+  pub walk_of_no_steps_adds_nothing : (position : ℕ) (xs : List (List ℕ)) → list_grown_by_walk_from_index step zero position xs ≡ xs
+  unfolding list_grown_by_walk_from_index
+  walk_of_no_steps_adds_nothing position xs = refl
 
-  module _ (nexts : List ℕ → List (List ℕ)) (adds : AddsAt step nexts) where
+  module _ (nexts : List ℕ → List (List ℕ)) (adds : IsStepThatAppends step nexts) where
     step_begins : (key : List ℕ) (xs : List (List ℕ)) → BeginsWith xs (step key xs)
-    step_begins key xs = subst (BeginsWith xs) (sym (adds.is key xs)) (several_begins (nexts key) xs)
+    step_begins key xs = subst (BeginsWith xs) (sym (adds.is key xs)) (appended_list_begins_with_old (nexts key) xs)
 
     -- the walk adds at the end
-    pub walk_begins : (n position : ℕ) (xs : List (List ℕ)) → BeginsWith xs (walk_from step n position xs)
-    walk_begins zero position xs = subst (BeginsWith xs) (sym (walk_none position xs)) (begins_refl xs)
-    walk_begins (suc n) position xs = elim (slice_get_cases xs position).1 [
-      | inl found ↦ subst (BeginsWith xs) (sym (walk_on n position xs found.0 found.2))
-          (begins_trans xs (step found.0 xs) (walk_from step n (suc position) (step found.0 xs)) (step_begins found.0 xs)
-          (walk_begins n (suc position) (step found.0 xs)))
-      | inr past ↦ subst (BeginsWith xs) (sym (walk_over (suc n) position xs past.1)) (begins_refl xs)
+    pub walked_list_begins_with_start : (n position : ℕ) (xs : List (List ℕ)) → BeginsWith xs (list_grown_by_walk_from_index step n position xs)
+    walked_list_begins_with_start zero position xs = subst (BeginsWith xs) (sym (walk_of_no_steps_adds_nothing position xs)) (begins_with_refl xs)
+    walked_list_begins_with_start (suc n) position xs = elim (slice_get_cases xs position).1 [
+      | inl found ↦ subst (BeginsWith xs) (sym (walk_takes_step_at_index n position xs found.0 found.2))
+          (begins_with_trans xs (step found.0 xs) (list_grown_by_walk_from_index step n (suc position) (step found.0 xs)) (step_begins found.0 xs)
+          (walked_list_begins_with_start n (suc position) (step found.0 xs)))
+      | inr past ↦ subst (BeginsWith xs) (sym (walk_past_end_adds_nothing (suc n) position xs past.1)) (begins_with_refl xs)
     ]
 
     -- none twice
-    pub walk_distinct : (n position : ℕ) (xs : List (List ℕ)) → IsDistinct bytes_eq xs → IsDistinct bytes_eq (walk_from step n position xs)
-    walk_distinct zero position xs once = subst (IsDistinct bytes_eq) (sym (walk_none position xs)) once
-    walk_distinct (suc n) position xs once = elim (slice_get_cases xs position).1 [
-      | inl found ↦ subst (IsDistinct bytes_eq) (sym (walk_on n position xs found.0 found.2))
-          (walk_distinct n (suc position) (step found.0 xs) (subst (IsDistinct bytes_eq) (sym (adds.is found.0 xs))
-          (several_distinct (nexts found.0) xs once)))
-      | inr past ↦ subst (IsDistinct bytes_eq) (sym (walk_over (suc n) position xs past.1)) once
+    pub walked_list_is_distinct : (n position : ℕ) (xs : List (List ℕ)) → IsDistinct bytes_eq xs
+        → IsDistinct bytes_eq (list_grown_by_walk_from_index step n position xs)
+    walked_list_is_distinct zero position xs once = subst (IsDistinct bytes_eq) (sym (walk_of_no_steps_adds_nothing position xs)) once
+    walked_list_is_distinct (suc n) position xs once = elim (slice_get_cases xs position).1 [
+      | inl found ↦ subst (IsDistinct bytes_eq) (sym (walk_takes_step_at_index n position xs found.0 found.2))
+          (walked_list_is_distinct n (suc position) (step found.0 xs) (subst (IsDistinct bytes_eq) (sym (adds.is found.0 xs))
+          (appended_list_is_distinct_if_old_was (nexts found.0) xs once)))
+      | inr past ↦ subst (IsDistinct bytes_eq) (sym (walk_past_end_adds_nothing (suc n) position xs past.1)) once
     ]
 
     -- a property of what the walk begins with, which each specifier passes on to those it adds, holds of all
     module _ (P : List ℕ → Type 0) (passes : (key x : List ℕ) → P key → Contains (nexts key) x → P x) where
       pub step_holds : (key : List ℕ) (xs : List (List ℕ)) → P key → ((x : List ℕ) → Contains xs x → P x) → (x : List ℕ) → Contains (step key xs) x → P x
-      step_holds key xs here each x has = elim (several_from (nexts key) xs x (subst (λ (list : List (List ℕ)). Contains list x) (adds.is key xs) has)) [
-        | inl old ↦ each x old
-        | inr new ↦ passes key x here new
-      ]
+      step_holds key xs here each x has = elim (element_is_old_or_appended (nexts key) xs x
+          (subst (λ (list : List (List ℕ)). Contains list x) (adds.is key xs) has)) [
+            | inl old ↦ each x old
+            | inr new ↦ passes key x here new
+          ]
 
-      pub walk_holds : (n position : ℕ) (xs : List (List ℕ)) → ((x : List ℕ) → Contains xs x → P x) → (x : List ℕ)
-          → Contains (walk_from step n position xs) x → P x
-      walk_holds zero position xs each x has = each x (subst (λ (list : List (List ℕ)). Contains list x) (walk_none position xs) has)
-      walk_holds (suc n) position xs each x has = elim (slice_get_cases xs position).1 [
-        | inl found ↦ walk_holds n (suc position) (step found.0 xs) (step_holds found.0 xs
+      pub predicate_holds_in_walked_list : (n position : ℕ) (xs : List (List ℕ)) → ((x : List ℕ) → Contains xs x → P x) → (x : List ℕ)
+          → Contains (list_grown_by_walk_from_index step n position xs) x → P x
+      predicate_holds_in_walked_list zero position xs each x has = each x
+          (subst (λ (list : List (List ℕ)). Contains list x) (walk_of_no_steps_adds_nothing position xs) has)
+      predicate_holds_in_walked_list (suc n) position xs each x has = elim (slice_get_cases xs position).1 [
+        | inl found ↦ predicate_holds_in_walked_list n (suc position) (step found.0 xs) (step_holds found.0 xs
             (each found.0 (subst (Contains xs) found.3 (Contains-get_or xs position found.0 found.1))) each) x
-            (subst (λ (list : List (List ℕ)). Contains list x) (walk_on n position xs found.0 found.2) has)
-        | inr past ↦ each x (subst (λ (list : List (List ℕ)). Contains list x) (walk_over (suc n) position xs past.1) has)
+            (subst (λ (list : List (List ℕ)). Contains list x) (walk_takes_step_at_index n position xs found.0 found.2) has)
+        | inr past ↦ each x (subst (λ (list : List (List ℕ)). Contains list x) (walk_past_end_adds_nothing (suc n) position xs past.1) has)
       ]
 
       -- steps that agree on these specifiers make the same list
-      pub walk_same : (other : List ℕ → List (List ℕ) → List (List ℕ)) → ((key : List ℕ) (xs : List (List ℕ)) → P key → step key xs ≡ other key xs)
-          → (n position : ℕ) (xs : List (List ℕ)) → ((x : List ℕ) → Contains xs x → P x) → walk_from step n position xs ≡ walk_from other n position xs
-      unfolding walk_from
-      walk_same other agree zero position xs each = refl
-      walk_same other agree (suc n) position xs each =
-          by (slice_get xs position) refl (λ key each_later. walk_same other agree n (suc position) (step key xs) each_later)
+      pub agreeing_steps_walk_alike : (other : List ℕ → List (List ℕ) → List (List ℕ))
+          → ((key : List ℕ) (xs : List (List ℕ)) → P key → step key xs ≡ other key xs)
+          → (n position : ℕ) (xs : List (List ℕ)) → ((x : List ℕ) → Contains xs x → P x) → list_grown_by_walk_from_index step n position xs
+          ≡ list_grown_by_walk_from_index other n position xs
+      unfolding list_grown_by_walk_from_index
+      agreeing_steps_walk_alike other agree zero position xs each = refl
+      agreeing_steps_walk_alike other agree (suc n) position xs each =
+          by (slice_get xs position) refl (λ key each_later. agreeing_steps_walk_alike other agree n (suc position) (step key xs) each_later)
         where
           by : (found : Option (List ℕ)) → slice_get xs position ≡ found
               → ((key : List ℕ) → ((x : List ℕ) → Contains (step key xs) x → P x)
-              → walk_from step n (suc position) (step key xs) ≡ walk_from other n (suc position) (step key xs))
-              → option_map_or (λ key. walk_from step n (suc position) (step key xs)) found xs
-              ≡ option_map_or (λ key. walk_from other n (suc position) (other key xs)) found xs
+              → list_grown_by_walk_from_index step n (suc position) (step key xs) ≡ list_grown_by_walk_from_index other n (suc position) (step key xs))
+              → option_map_or (λ key. list_grown_by_walk_from_index step n (suc position) (step key xs)) found xs
+              ≡ option_map_or (λ key. list_grown_by_walk_from_index other n (suc position) (other key xs)) found xs
           by None at later = refl
           by (Some key) at later =
               let here : P key = each key (elim (slice_get_cases xs position).1 [
                 | inl found ↦ (position, found.1, get_or_from_slice_get xs position key key at)
                 | inr past ↦ absurd (let no : None ≡ Some key = sym past.1 ∙ at in cc)
               ]) in
-              later key (step_holds key xs here each) ∙ ap (walk_from other n (suc position)) (agree key xs here)
+              later key (step_holds key xs here each) ∙ ap (list_grown_by_walk_from_index other n (suc position)) (agree key xs here)
 
     -- with enough steps the list has what each of its specifiers adds
-    pub walk_closed : (n position : ℕ) (xs : List (List ℕ)) → length (walk_from step n position xs) ≤ position + n → (i : ℕ) (d : List ℕ) → position ≤ i
-        → i < length (walk_from step n position xs) → (x : List ℕ) → Contains (nexts (get_or (walk_from step n position xs) i d)) x
-        → Contains (walk_from step n position xs) x
-    walk_closed zero position xs enough i d after within x has =
+    pub walked_list_has_what_each_appends : (n position : ℕ) (xs : List (List ℕ)) → length (list_grown_by_walk_from_index step n position xs) ≤ position + n
+        → (i : ℕ) (d : List ℕ) → position ≤ i
+        → i < length (list_grown_by_walk_from_index step n position xs) → (x : List ℕ)
+        → Contains (nexts (get_or (list_grown_by_walk_from_index step n position xs) i d)) x
+        → Contains (list_grown_by_walk_from_index step n position xs) x
+    walked_list_has_what_each_appends zero position xs enough i d after within x has =
         absurd (omega (arith, enough, after, within))
-    walk_closed (suc n) position xs enough i d after within x has = elim (slice_get_cases xs position).1 [
-      | inl found ↦ by found.0 found.1 found.2 (walk_on n position xs found.0 found.2)
+    walked_list_has_what_each_appends (suc n) position xs enough i d after within x has = elim (slice_get_cases xs position).1 [
+      | inl found ↦ by found.0 found.1 found.2 (walk_takes_step_at_index n position xs found.0 found.2)
           (λ enough_later after_later within_later has_later.
-          walk_closed n (suc position) (step found.0 xs) enough_later i d after_later within_later x has_later)
-      | inr past ↦ absurd (omega (arith, ap length (walk_over (suc n) position xs past.1), past.0, after, within))
+          walked_list_has_what_each_appends n (suc position) (step found.0 xs) enough_later i d after_later within_later x has_later)
+      | inr past ↦ absurd (omega (arith, ap length (walk_past_end_adds_nothing (suc n) position xs past.1), past.0, after, within))
     ]
       where
         list : List (List ℕ)
-        list = walk_from step (suc n) position xs
+        list = list_grown_by_walk_from_index step (suc n) position xs
 
         -- the remaining walk has what is added later
         HoldsLater : List (List ℕ) → Type 0
         HoldsLater next = length next ≤ suc position + n → suc position ≤ i → i < length next → Contains (nexts (get_or next i d)) x → Contains next x
 
         at_here : (key : List ℕ) → position < length xs → slice_get xs position ≡ Some key → get_or list position d ≡ key
-        at_here key inside at = begun_at xs list position d (walk_begins (suc n) position xs) inside ∙ get_or_from_slice_get xs position key d at
+        at_here key inside at = beginning_agrees_at_index xs list position d (walked_list_begins_with_start (suc n) position xs) inside
+            ∙ get_or_from_slice_get xs position key d at
 
-        here : (key : List ℕ) → position < length xs → slice_get xs position ≡ Some key → list ≡ walk_from step n (suc position) (step key xs)
+        here : (key : List ℕ) → position < length xs → slice_get xs position ≡ Some key → list ≡ list_grown_by_walk_from_index step n (suc position)
+            (step key xs)
             → position ≡ i → Contains list x
         here key inside at on same =
             let added : Contains (nexts key) x =
             subst (λ (k : List ℕ). Contains (nexts k) x) (ap (λ j. get_or list j d) (sym same) ∙ at_here key inside at) has in
-            subst (λ (l : List (List ℕ)). Contains l x) (sym on) (begun_contains (step key xs) (walk_from step n (suc position) (step key xs)) x
-            (walk_begins n (suc position) (step key xs)) (subst (λ (l : List (List ℕ)). Contains l x) (sym (adds.is key xs))
-            (several_right (nexts key) xs x added)))
+            subst (λ (l : List (List ℕ)). Contains l x) (sym on) (elements_of_beginning_are_contained (step key xs)
+            (list_grown_by_walk_from_index step n (suc position) (step key xs)) x
+            (walked_list_begins_with_start n (suc position) (step key xs)) (subst (λ (l : List (List ℕ)). Contains l x) (sym (adds.is key xs))
+            (appended_list_contains_each_new (nexts key) xs x added)))
 
-        by : (key : List ℕ) → position < length xs → slice_get xs position ≡ Some key → list ≡ walk_from step n (suc position) (step key xs)
-            → HoldsLater (walk_from step n (suc position) (step key xs)) → Contains list x
+        by : (key : List ℕ) → position < length xs → slice_get xs position ≡ Some key → list ≡ list_grown_by_walk_from_index step n (suc position) (step key xs)
+            → HoldsLater (list_grown_by_walk_from_index step n (suc position) (step key xs)) → Contains list x
         by key inside at on later = elim (same_or_less position i after) [
           | inl same ↦ here key inside at on same
           | inr less ↦ subst (λ (l : List (List ℕ)). Contains l x) (sym on) (later (omega (arith, enough, ap length on)) less

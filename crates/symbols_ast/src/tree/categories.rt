@@ -2,7 +2,7 @@
 //! Categories: which kinds may stand at a place.
 
 ghost use Rattle.std.specs.Prelude.{◌≡◌};
-ghost use Rattle.symbols_ast.specs.Categories.{allows, is_declaration, is_statement, is_expression, is_property_key, is_ts_entity_name, is_signature_pattern, is_pattern, is_type, is_member, is_type_element, is_import_or_export, is_item, is_exported_declaration, is_neither_program_nor_import_export, is_constructor_param, is_accessor_key, is_type_query_expr, is_assign_left};
+ghost use Rattle.symbols_ast.specs.Categories.{category_allows_kind, is_declaration, is_statement, is_expression, is_property_key, is_ts_entity_name, is_signature_pattern, is_pattern, is_type, is_member, is_type_element, is_import_or_export, is_item, is_exportable_declaration, is_neither_program_nor_import_export, is_constructor_param, is_accessor_key, is_type_query_expr, is_assign_left};
 
 use crate::tree::names::KindName;
 
@@ -222,8 +222,8 @@ impl KindName {
         self.is_statement() || self.is_import_or_export()
     }
 
-    fn is_exported_declaration(self) -> bool
-        ensures { result ≡ is_exported_declaration self }
+    fn is_exportable_declaration(self) -> bool
+        ensures { result ≡ is_exportable_declaration self }
     {
         self.is_declaration() && !matches!(self, KindName::UsingDecl)
     }
@@ -262,7 +262,7 @@ impl KindName {
 impl Category {
     /// Returns whether a kind may stand there.
     pub fn allows(self, name: KindName) -> bool
-        ensures { result ≡ allows self name }
+        ensures { result ≡ category_allows_kind self name }
     {
         match self {
             Category::Item => name.is_item(),
@@ -271,7 +271,7 @@ impl Category {
                 KindName::ImportNamed | KindName::ImportDefault | KindName::ImportNamespace
             ),
             Category::Ident => matches!(name, KindName::Ident),
-            Category::ExportedDeclaration => name.is_exported_declaration(),
+            Category::ExportedDeclaration => name.is_exportable_declaration(),
             Category::ExportSpecifier => matches!(
                 name,
                 KindName::ExportSpecifier | KindName::ExportNamespace

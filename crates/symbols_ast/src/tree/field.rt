@@ -1,7 +1,8 @@
 //! Fields of a node that hold child nodes.
 
 ghost use Rattle.std.specs.Prelude.{◌≡◌};
-ghost use Rattle.symbols_ast.specs.FieldViews.{field_view, one_field, optional_field, many_field};
+ghost use Rattle.symbols_ast.specs.FieldViews.{field_view, field_of_one_child, field_of_optional_child};
+ghost use Rattle.symbols_ast.specs.FieldViews.{field_of_children};
 
 use crate::tree::arena::NodeId;
 use crate::tree::categories::Category;
@@ -25,21 +26,21 @@ pub struct Field<'a> {
 pub type Fields<'a> = [Option<Field<'a>>; 5];
 
 pub(crate) fn one<'a>(category: Category, child: &NodeId) -> Field<'a>
-    ensures { field_view result ≡ one_field category child.now }
+    ensures { field_view result ≡ field_of_one_child category child.now }
 {
     let children = Children::One(*child);
     Field { category, children }
 }
 
 pub(crate) fn optional<'a>(category: Category, child: &Option<NodeId>) -> Field<'a>
-    ensures { field_view result ≡ optional_field category child.now }
+    ensures { field_view result ≡ field_of_optional_child category child.now }
 {
     let children = Children::Optional(*child);
     Field { category, children }
 }
 
 pub(crate) fn many<'a>(category: Category, children: &'a Vec<NodeId>) -> Field<'a>
-    ensures { field_view result ≡ many_field category children.now.items }
+    ensures { field_view result ≡ field_of_children category children.now.items }
 {
     let children = Children::Many(children.as_slice());
     Field { category, children }

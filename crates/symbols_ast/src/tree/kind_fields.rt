@@ -2,13 +2,13 @@
 //! The fields of a kind that hold children, by their names: of a kind without the field none.
 
 ghost use Rattle.std.specs.Prelude.{◌≡◌};
-ghost use Rattle.symbols_ast.specs.ChildFields.{body_of, specifiers_of, local_of, decl_of, orig_of, expr_of, id_of, entity_of, ident_of, class_of, type_params_of, super_class_of, super_type_params_of, implements_of, function_of, params_of, return_type_of, body_node_of, decls_of, name_of, init_of, extends_of, type_ann_of, members_of, param_of, key_of, value_of, constraint_of, default_of, ty_of, type_args_of, expr_name_of, qualifier_of, label_of, left_of, obj_of, prop_of, right_of, elems_of, props_of, arg_of, children_field_of};
+ghost use Rattle.symbols_ast.specs.ChildFields.{body_children_of, specifier_children_of, local_child_of, decl_child_of, orig_child_of, expr_child_of, id_child_of, entity_child_of, ident_child_of, class_child_of, type_params_child_of, super_class_child_of, super_type_params_child_of, implements_children_of, function_child_of, param_children_of, return_type_child_of, body_child_of, decl_children_of, name_child_of, init_child_of, extends_children_of, type_ann_child_of, member_children_of, param_child_of, key_child_of, value_child_of, constraint_child_of, default_child_of, ty_child_of, type_args_child_of, expr_name_child_of, qualifier_child_of, label_child_of, left_child_of, obj_child_of, prop_child_of, right_child_of, elem_children_of, prop_children_of, arg_child_of, children_field_of};
 
 use crate::tree::arena::NodeId;
 use crate::tree::kinds::{Decl, Expr, Item, Kind, Member, Pat, Ty};
 
 pub(crate) fn body_of_kind(kind: &Kind) -> &[NodeId]
-    ensures { result.now ≡ body_of kind.now }
+    ensures { result.now ≡ body_children_of kind.now }
 {
     match kind {
         Kind::Item(Item::Program { body }) => body,
@@ -22,7 +22,7 @@ pub(crate) fn body_of_kind(kind: &Kind) -> &[NodeId]
 }
 
 pub(crate) fn specifiers_of_kind(kind: &Kind) -> &[NodeId]
-    ensures { result.now ≡ specifiers_of kind.now }
+    ensures { result.now ≡ specifier_children_of kind.now }
 {
     match kind {
         Kind::Item(Item::Import { specifiers, .. } | Item::ExportNamed { specifiers, .. }) =>
@@ -32,7 +32,7 @@ pub(crate) fn specifiers_of_kind(kind: &Kind) -> &[NodeId]
 }
 
 pub(crate) fn local_of_kind(kind: &Kind) -> Option<NodeId>
-    ensures { result ≡ local_of kind.now }
+    ensures { result ≡ local_child_of kind.now }
 {
     match kind {
         Kind::Item(
@@ -46,7 +46,7 @@ pub(crate) fn local_of_kind(kind: &Kind) -> Option<NodeId>
 }
 
 pub(crate) fn decl_of_kind(kind: &Kind) -> Option<NodeId>
-    ensures { result ≡ decl_of kind.now }
+    ensures { result ≡ decl_child_of kind.now }
 {
     match kind {
         Kind::Item(Item::ExportDecl { decl } | Item::ExportDefaultDecl { decl }) => Some(*decl),
@@ -55,7 +55,7 @@ pub(crate) fn decl_of_kind(kind: &Kind) -> Option<NodeId>
 }
 
 pub(crate) fn orig_of_kind(kind: &Kind) -> Option<NodeId>
-    ensures { result ≡ orig_of kind.now }
+    ensures { result ≡ orig_child_of kind.now }
 {
     match kind {
         Kind::Item(Item::ExportSpecifier { orig, .. }) => Some(*orig),
@@ -64,7 +64,7 @@ pub(crate) fn orig_of_kind(kind: &Kind) -> Option<NodeId>
 }
 
 pub(crate) fn expr_of_kind(kind: &Kind) -> Option<NodeId>
-    ensures { result ≡ expr_of kind.now }
+    ensures { result ≡ expr_child_of kind.now }
 {
     match kind {
         Kind::Item(
@@ -84,7 +84,7 @@ pub(crate) fn expr_of_kind(kind: &Kind) -> Option<NodeId>
 }
 
 pub(crate) fn id_of_kind(kind: &Kind) -> Option<NodeId>
-    ensures { result ≡ id_of kind.now }
+    ensures { result ≡ id_child_of kind.now }
 {
     match kind {
         Kind::Item(Item::TsImportEqualsDecl { id, .. }) => Some(*id),
@@ -100,7 +100,7 @@ pub(crate) fn id_of_kind(kind: &Kind) -> Option<NodeId>
 }
 
 pub(crate) fn entity_of_kind(kind: &Kind) -> Option<NodeId>
-    ensures { result ≡ entity_of kind.now }
+    ensures { result ≡ entity_child_of kind.now }
 {
     match kind {
         Kind::Item(Item::TsImportEqualsDecl { entity, .. }) => *entity,
@@ -109,7 +109,7 @@ pub(crate) fn entity_of_kind(kind: &Kind) -> Option<NodeId>
 }
 
 pub(crate) fn ident_of_kind(kind: &Kind) -> Option<NodeId>
-    ensures { result ≡ ident_of kind.now }
+    ensures { result ≡ ident_child_of kind.now }
 {
     match kind {
         Kind::Decl(Decl::ClassDecl { ident, .. } | Decl::FnDecl { ident, .. }) => Some(*ident),
@@ -119,7 +119,7 @@ pub(crate) fn ident_of_kind(kind: &Kind) -> Option<NodeId>
 }
 
 pub(crate) fn class_of_kind(kind: &Kind) -> Option<NodeId>
-    ensures { result ≡ class_of kind.now }
+    ensures { result ≡ class_child_of kind.now }
 {
     match kind {
         Kind::Decl(Decl::ClassDecl { class, .. } | Decl::ClassExpr { class, .. }) => Some(*class),
@@ -128,7 +128,7 @@ pub(crate) fn class_of_kind(kind: &Kind) -> Option<NodeId>
 }
 
 pub(crate) fn type_params_of_kind(kind: &Kind) -> Option<NodeId>
-    ensures { result ≡ type_params_of kind.now }
+    ensures { result ≡ type_params_child_of kind.now }
 {
     match kind {
         Kind::Decl(
@@ -148,7 +148,7 @@ pub(crate) fn type_params_of_kind(kind: &Kind) -> Option<NodeId>
 }
 
 pub(crate) fn super_class_of_kind(kind: &Kind) -> Option<NodeId>
-    ensures { result ≡ super_class_of kind.now }
+    ensures { result ≡ super_class_child_of kind.now }
 {
     match kind {
         Kind::Decl(Decl::Class { super_class, .. }) => *super_class,
@@ -157,7 +157,7 @@ pub(crate) fn super_class_of_kind(kind: &Kind) -> Option<NodeId>
 }
 
 pub(crate) fn super_type_params_of_kind(kind: &Kind) -> Option<NodeId>
-    ensures { result ≡ super_type_params_of kind.now }
+    ensures { result ≡ super_type_params_child_of kind.now }
 {
     match kind {
         Kind::Decl(
@@ -171,7 +171,7 @@ pub(crate) fn super_type_params_of_kind(kind: &Kind) -> Option<NodeId>
 }
 
 pub(crate) fn implements_of_kind(kind: &Kind) -> &[NodeId]
-    ensures { result.now ≡ implements_of kind.now }
+    ensures { result.now ≡ implements_children_of kind.now }
 {
     match kind {
         Kind::Decl(Decl::Class { implements, .. }) => implements,
@@ -180,7 +180,7 @@ pub(crate) fn implements_of_kind(kind: &Kind) -> &[NodeId]
 }
 
 pub(crate) fn function_of_kind(kind: &Kind) -> Option<NodeId>
-    ensures { result ≡ function_of kind.now }
+    ensures { result ≡ function_child_of kind.now }
 {
     match kind {
         Kind::Decl(Decl::FnDecl { function, .. } | Decl::FnExpr { function, .. }) => Some(
@@ -192,7 +192,7 @@ pub(crate) fn function_of_kind(kind: &Kind) -> Option<NodeId>
 }
 
 pub(crate) fn params_of_kind(kind: &Kind) -> &[NodeId]
-    ensures { result.now ≡ params_of kind.now }
+    ensures { result.now ≡ param_children_of kind.now }
 {
     match kind {
         Kind::Decl(Decl::Function { params, .. }) => params,
@@ -211,7 +211,7 @@ pub(crate) fn params_of_kind(kind: &Kind) -> &[NodeId]
 }
 
 pub(crate) fn return_type_of_kind(kind: &Kind) -> Option<NodeId>
-    ensures { result ≡ return_type_of kind.now }
+    ensures { result ≡ return_type_child_of kind.now }
 {
     match kind {
         Kind::Decl(Decl::Function { return_type, .. }) => *return_type,
@@ -221,7 +221,7 @@ pub(crate) fn return_type_of_kind(kind: &Kind) -> Option<NodeId>
 }
 
 pub(crate) fn body_node_of_kind(kind: &Kind) -> Option<NodeId>
-    ensures { result ≡ body_node_of kind.now }
+    ensures { result ≡ body_child_of kind.now }
 {
     match kind {
         Kind::Decl(Decl::TsNamespaceDecl { body, .. }) => Some(*body),
@@ -233,7 +233,7 @@ pub(crate) fn body_node_of_kind(kind: &Kind) -> Option<NodeId>
 }
 
 pub(crate) fn decls_of_kind(kind: &Kind) -> &[NodeId]
-    ensures { result.now ≡ decls_of kind.now }
+    ensures { result.now ≡ decl_children_of kind.now }
 {
     match kind {
         Kind::Decl(Decl::VarDecl { decls } | Decl::UsingDecl { decls }) => decls,
@@ -242,7 +242,7 @@ pub(crate) fn decls_of_kind(kind: &Kind) -> &[NodeId]
 }
 
 pub(crate) fn name_of_kind(kind: &Kind) -> Option<NodeId>
-    ensures { result ≡ name_of kind.now }
+    ensures { result ≡ name_child_of kind.now }
 {
     match kind {
         Kind::Decl(Decl::VarDeclarator { name, .. }) => Some(*name),
@@ -251,7 +251,7 @@ pub(crate) fn name_of_kind(kind: &Kind) -> Option<NodeId>
 }
 
 pub(crate) fn init_of_kind(kind: &Kind) -> Option<NodeId>
-    ensures { result ≡ init_of kind.now }
+    ensures { result ≡ init_child_of kind.now }
 {
     match kind {
         Kind::Decl(Decl::VarDeclarator { init, .. } | Decl::TsEnumMember { init }) => *init,
@@ -260,7 +260,7 @@ pub(crate) fn init_of_kind(kind: &Kind) -> Option<NodeId>
 }
 
 pub(crate) fn extends_of_kind(kind: &Kind) -> &[NodeId]
-    ensures { result.now ≡ extends_of kind.now }
+    ensures { result.now ≡ extends_children_of kind.now }
 {
     match kind {
         Kind::Decl(Decl::TsInterfaceDecl { extends, .. }) => extends,
@@ -269,7 +269,7 @@ pub(crate) fn extends_of_kind(kind: &Kind) -> &[NodeId]
 }
 
 pub(crate) fn type_ann_of_kind(kind: &Kind) -> Option<NodeId>
-    ensures { result ≡ type_ann_of kind.now }
+    ensures { result ≡ type_ann_child_of kind.now }
 {
     match kind {
         Kind::Decl(Decl::TsTypeAliasDecl { type_ann, .. }) => Some(*type_ann),
@@ -294,7 +294,7 @@ pub(crate) fn type_ann_of_kind(kind: &Kind) -> Option<NodeId>
 }
 
 pub(crate) fn members_of_kind(kind: &Kind) -> &[NodeId]
-    ensures { result.now ≡ members_of kind.now }
+    ensures { result.now ≡ member_children_of kind.now }
 {
     match kind {
         Kind::Decl(Decl::TsEnumDecl { members, .. }) => members,
@@ -303,7 +303,7 @@ pub(crate) fn members_of_kind(kind: &Kind) -> &[NodeId]
 }
 
 pub(crate) fn param_of_kind(kind: &Kind) -> Option<NodeId>
-    ensures { result ≡ param_of kind.now }
+    ensures { result ≡ param_child_of kind.now }
 {
     match kind {
         Kind::Member(Member::TsParamProp { param, .. } | Member::TsSetterSignature { param, .. }) =>
@@ -313,7 +313,7 @@ pub(crate) fn param_of_kind(kind: &Kind) -> Option<NodeId>
 }
 
 pub(crate) fn key_of_kind(kind: &Kind) -> Option<NodeId>
-    ensures { result ≡ key_of kind.now }
+    ensures { result ≡ key_child_of kind.now }
 {
     match kind {
         Kind::Member(
@@ -331,7 +331,7 @@ pub(crate) fn key_of_kind(kind: &Kind) -> Option<NodeId>
 }
 
 pub(crate) fn value_of_kind(kind: &Kind) -> Option<NodeId>
-    ensures { result ≡ value_of kind.now }
+    ensures { result ≡ value_child_of kind.now }
 {
     match kind {
         Kind::Member(Member::ClassProp { value, .. } | Member::AutoAccessor { value, .. }) =>
@@ -343,7 +343,7 @@ pub(crate) fn value_of_kind(kind: &Kind) -> Option<NodeId>
 }
 
 pub(crate) fn constraint_of_kind(kind: &Kind) -> Option<NodeId>
-    ensures { result ≡ constraint_of kind.now }
+    ensures { result ≡ constraint_child_of kind.now }
 {
     match kind {
         Kind::Ty(Ty::TsTypeParam { constraint, .. }) => *constraint,
@@ -352,7 +352,7 @@ pub(crate) fn constraint_of_kind(kind: &Kind) -> Option<NodeId>
 }
 
 pub(crate) fn default_of_kind(kind: &Kind) -> Option<NodeId>
-    ensures { result ≡ default_of kind.now }
+    ensures { result ≡ default_child_of kind.now }
 {
     match kind {
         Kind::Ty(Ty::TsTypeParam { default, .. }) => *default,
@@ -361,7 +361,7 @@ pub(crate) fn default_of_kind(kind: &Kind) -> Option<NodeId>
 }
 
 pub(crate) fn ty_of_kind(kind: &Kind) -> Option<NodeId>
-    ensures { result ≡ ty_of kind.now }
+    ensures { result ≡ ty_child_of kind.now }
 {
     match kind {
         Kind::Ty(
@@ -375,7 +375,7 @@ pub(crate) fn ty_of_kind(kind: &Kind) -> Option<NodeId>
 }
 
 pub(crate) fn type_args_of_kind(kind: &Kind) -> Option<NodeId>
-    ensures { result ≡ type_args_of kind.now }
+    ensures { result ≡ type_args_child_of kind.now }
 {
     match kind {
         Kind::Ty(
@@ -388,7 +388,7 @@ pub(crate) fn type_args_of_kind(kind: &Kind) -> Option<NodeId>
 }
 
 pub(crate) fn expr_name_of_kind(kind: &Kind) -> Option<NodeId>
-    ensures { result ≡ expr_name_of kind.now }
+    ensures { result ≡ expr_name_child_of kind.now }
 {
     match kind {
         Kind::Ty(Ty::TsTypeQuery { expr_name, .. }) => Some(*expr_name),
@@ -397,7 +397,7 @@ pub(crate) fn expr_name_of_kind(kind: &Kind) -> Option<NodeId>
 }
 
 pub(crate) fn qualifier_of_kind(kind: &Kind) -> Option<NodeId>
-    ensures { result ≡ qualifier_of kind.now }
+    ensures { result ≡ qualifier_child_of kind.now }
 {
     match kind {
         Kind::Ty(Ty::TsImportType { qualifier, .. }) => *qualifier,
@@ -406,7 +406,7 @@ pub(crate) fn qualifier_of_kind(kind: &Kind) -> Option<NodeId>
 }
 
 pub(crate) fn label_of_kind(kind: &Kind) -> Option<NodeId>
-    ensures { result ≡ label_of kind.now }
+    ensures { result ≡ label_child_of kind.now }
 {
     match kind {
         Kind::Ty(Ty::TsTupleElement { label, .. }) => *label,
@@ -415,7 +415,7 @@ pub(crate) fn label_of_kind(kind: &Kind) -> Option<NodeId>
 }
 
 pub(crate) fn left_of_kind(kind: &Kind) -> Option<NodeId>
-    ensures { result ≡ left_of kind.now }
+    ensures { result ≡ left_child_of kind.now }
 {
     match kind {
         Kind::Ty(Ty::TsQualifiedName { left, .. }) => Some(*left),
@@ -426,7 +426,7 @@ pub(crate) fn left_of_kind(kind: &Kind) -> Option<NodeId>
 }
 
 pub(crate) fn obj_of_kind(kind: &Kind) -> Option<NodeId>
-    ensures { result ≡ obj_of kind.now }
+    ensures { result ≡ obj_child_of kind.now }
 {
     match kind {
         Kind::Expr(Expr::Member { obj, .. }) => Some(*obj),
@@ -435,7 +435,7 @@ pub(crate) fn obj_of_kind(kind: &Kind) -> Option<NodeId>
 }
 
 pub(crate) fn prop_of_kind(kind: &Kind) -> Option<NodeId>
-    ensures { result ≡ prop_of kind.now }
+    ensures { result ≡ prop_child_of kind.now }
 {
     match kind {
         Kind::Expr(Expr::Member { prop, .. }) => Some(*prop),
@@ -444,7 +444,7 @@ pub(crate) fn prop_of_kind(kind: &Kind) -> Option<NodeId>
 }
 
 pub(crate) fn right_of_kind(kind: &Kind) -> Option<NodeId>
-    ensures { result ≡ right_of kind.now }
+    ensures { result ≡ right_child_of kind.now }
 {
     match kind {
         Kind::Expr(Expr::Assign { right, .. }) => Some(*right),
@@ -454,7 +454,7 @@ pub(crate) fn right_of_kind(kind: &Kind) -> Option<NodeId>
 }
 
 pub(crate) fn elems_of_kind(kind: &Kind) -> &[NodeId]
-    ensures { result.now ≡ elems_of kind.now }
+    ensures { result.now ≡ elem_children_of kind.now }
 {
     match kind {
         Kind::Pat(Pat::ArrayPat { elems, .. }) => elems,
@@ -463,7 +463,7 @@ pub(crate) fn elems_of_kind(kind: &Kind) -> &[NodeId]
 }
 
 pub(crate) fn props_of_kind(kind: &Kind) -> &[NodeId]
-    ensures { result.now ≡ props_of kind.now }
+    ensures { result.now ≡ prop_children_of kind.now }
 {
     match kind {
         Kind::Pat(Pat::ObjectPat { props, .. }) => props,
@@ -472,7 +472,7 @@ pub(crate) fn props_of_kind(kind: &Kind) -> &[NodeId]
 }
 
 pub(crate) fn arg_of_kind(kind: &Kind) -> Option<NodeId>
-    ensures { result ≡ arg_of kind.now }
+    ensures { result ≡ arg_child_of kind.now }
 {
     match kind {
         Kind::Pat(Pat::RestPat { arg, .. }) => Some(*arg),

@@ -7,7 +7,7 @@ use Rattle.symbols_deps.specs.declared.rules.PatternContextRule.{PatternContextR
 use Rattle.symbols_deps.specs.declared.rules.NamespaceRule.{NamespaceRule}
 use Rattle.symbols_deps.specs.declared.rules.EdgeGuard.{EdgeGuard}
 use Rattle.symbols_deps.specs.declared.rules.EdgeRuleSet.{EdgeRuleSet}
-use Rattle.symbols_deps.specs.EdgeRules.{FieldEdges, default_edge_rules, with_pattern_context, with_namespace_rule, with_guard}
+use Rattle.symbols_deps.specs.EdgeRules.{FieldEdges, default_edge_rules, edge_rules_with_pattern_context, edge_rules_with_namespace_rule, edge_rules_with_guard}
 use Rattle.symbols_deps.specs.EdgeTable.{decl_edges, member_edges}
 
 abbrev pub is_class_kind : Decl → Bool
@@ -47,9 +47,10 @@ abbrev pub other_member_edges : Member → List FieldEdges
 other_member_edges member = if is_keyed_type_element member then [] else member_edges member
 
 -- The rules of the initializer of a variable, a property or a pattern.
-abbrev pub initializer_edge_rules : EdgeRuleSet
-initializer_edge_rules = with_guard EdgeGuard.Initializer default_edge_rules
+abbrev pub edge_rules_with_initializer_guard : EdgeRuleSet
+edge_rules_with_initializer_guard = edge_rules_with_guard EdgeGuard.Initializer default_edge_rules
 
 -- The rules of the parts of a type.
-abbrev pub type_part_edge_rules : EdgeRuleSet
-type_part_edge_rules = with_pattern_context PatternContextRule.SignatureKinds (with_namespace_rule NamespaceRule.ByKind default_edge_rules)
+abbrev pub type_part_edge_rules_by_child_kind : EdgeRuleSet
+type_part_edge_rules_by_child_kind = edge_rules_with_pattern_context PatternContextRule.SignatureKinds
+    (edge_rules_with_namespace_rule NamespaceRule.ByKind default_edge_rules)

@@ -26,9 +26,9 @@ is_name_search_done AllNames names = false
 is_name_search_done (OneName name) [] = bytes_eq name.now default_export_name
 is_name_search_done (OneName name) (found ∷ rest) = true
 
-abbrev pub is_default : NameFilter → Bool
-is_default AllNames = false
-is_default (OneName name) = bytes_eq name.now default_export_name
+abbrev pub is_filter_for_default : NameFilter → Bool
+is_filter_for_default AllNames = false
+is_filter_for_default (OneName name) = bytes_eq name.now default_export_name
 
 -- whether candidates are stored, for the shared names
 abbrev pub collects_shared : NameFilter → Rules → Bool

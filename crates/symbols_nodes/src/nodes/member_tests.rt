@@ -3,9 +3,8 @@
 ghost use Rattle.std.specs.Prelude.{◌≡◌, true, false};
 ghost use Rattle.symbols_ast.specs.NodeRefs.{node_view, kind_of};
 ghost use Rattle.symbols_nodes.specs.NodeViews.{symbol_node_view};
-ghost use Rattle.symbols_nodes.specs.NodeMembers.{is_member_node, is_decl, accessibility_of};
-ghost use Rattle.symbols_nodes.specs.NodeMembers.{has_private_modifier, has_private_name};
-ghost use Rattle.symbols_nodes.specs.NodeMembers.{is_private_member};
+ghost use Rattle.symbols_nodes.specs.NodeMembers.{is_member_or_expando_node, is_decl, accessibility_of};
+ghost use Rattle.symbols_nodes.specs.NodeMembers.{has_private_modifier, has_private_name, is_private_member};
 
 use crate::nodes::refs::{ExportDeclRef, SymbolNodeRef};
 use symbols_ast::tree::{Accessibility, Expr, Kind, Member, NodeRef};
@@ -72,7 +71,7 @@ impl SymbolNodeRef<'_> {
     /// Returns whether the node is a member of a class or interface, or an expando property (as
     /// deno_graph).
     pub fn is_member(&self) -> bool
-        ensures { result ≡ is_member_node (symbol_node_view self.now) }
+        ensures { result ≡ is_member_or_expando_node (symbol_node_view self.now) }
     {
         matches!(
             self,

@@ -4,7 +4,7 @@ ghost use Rattle.std.specs.Prelude.{◌≡◌, ◌++◌, Some, None, IfOk, IsOkA
 ghost use Rattle.std.specs.Option.{option_map, option_copied, option_and_then};
 ghost use Rattle.std.specs.Cow.{cow_str_bytes};
 ghost use Rattle.symbols_ast.specs.NodeRefs.{node_view, kind_of};
-ghost use Rattle.symbols_ast.specs.ChildFields.{ident_of, id_of, key_of, expr_of};
+ghost use Rattle.symbols_ast.specs.ChildFields.{ident_child_of, id_child_of, key_child_of, expr_child_of};
 ghost use Rattle.symbols_nodes.specs.NodeViews.{export_decl_view, symbol_node_view};
 ghost use Rattle.symbols_nodes.specs.NodeNames.{ident_or_literal_text, child_text, key_name_by_kind};
 ghost use Rattle.symbols_nodes.specs.NodeNames.{key_name};

@@ -3,7 +3,7 @@
 ghost use Rattle.std.specs.Prelude.{◌≡◌};
 ghost use Rattle.symbols_nodes.specs.NodeViews.{export_decl_view, symbol_node_view};
 ghost use Rattle.symbols_nodes.specs.NodeNamespaces.{value_type_namespaces_of_export_decl};
-ghost use Rattle.symbols_nodes.specs.NodeNamespaces.{namespaces};
+ghost use Rattle.symbols_nodes.specs.NodeNamespaces.{value_type_namespaces_of_node};
 
 use crate::nodes::refs::{ExportDeclRef, SymbolNodeRef};
 
@@ -30,7 +30,7 @@ impl SymbolNodeRef<'_> {
     /// and type aliases are types only. All others are both, the module and members included (as
     /// deno_graph).
     pub fn namespaces(&self) -> (bool, bool)
-        ensures { result ≡ namespaces (symbol_node_view self.now) }
+        ensures { result ≡ value_type_namespaces_of_node (symbol_node_view self.now) }
     {
         match self {
             SymbolNodeRef::Var(..)

@@ -3,18 +3,15 @@
 ghost use Rattle.std.specs.Prelude.{◌≡◌, true, false};
 ghost use Rattle.std.specs.Option.{option_and_then, option_copied};
 ghost use Rattle.symbols_ast.specs.NodeRefs.{node_view, kind_of, child_in_field};
-ghost use Rattle.symbols_ast.specs.ChildFields.{decl_of};
+ghost use Rattle.symbols_ast.specs.ChildFields.{decl_child_of};
 ghost use Rattle.symbols_nodes.specs.NodeViews.{export_decl_view, symbol_node_view};
-ghost use Rattle.symbols_nodes.specs.NodeTests.{is_exported_class, is_class, is_exported_function};
-ghost use Rattle.symbols_nodes.specs.NodeTests.{is_function};
-ghost use Rattle.symbols_nodes.specs.NodeTests.{is_exported_interface, is_interface};
-ghost use Rattle.symbols_nodes.specs.NodeTests.{is_exported_ts_namespace};
-ghost use Rattle.symbols_nodes.specs.NodeTests.{is_ts_namespace, is_exported_var, is_var, is_ctor};
-ghost use Rattle.symbols_nodes.specs.NodeTests.{is_module};
-ghost use Rattle.symbols_nodes.specs.NodeTests.{has_export_keyword, has_direct_body};
-ghost use Rattle.symbols_nodes.specs.NodeTests.{has_function_body};
-ghost use Rattle.symbols_nodes.specs.NodeTests.{exported_decl_has_body, default_decl_has_body, has_body};
-ghost use Rattle.symbols_nodes.specs.NodeTests.{is_method};
+ghost use Rattle.symbols_nodes.specs.NodeTests.{is_exported_class, is_class_exported_or_not, is_exported_function};
+ghost use Rattle.symbols_nodes.specs.NodeTests.{is_function_exported_or_not, is_exported_interface};
+ghost use Rattle.symbols_nodes.specs.NodeTests.{is_interface_exported_or_not, is_exported_ts_namespace};
+ghost use Rattle.symbols_nodes.specs.NodeTests.{is_ts_namespace_exported_or_not, is_exported_var};
+ghost use Rattle.symbols_nodes.specs.NodeTests.{is_var_exported_or_not, is_ctor, is_module, has_export_keyword};
+ghost use Rattle.symbols_nodes.specs.NodeTests.{has_direct_body, has_function_body, exported_decl_has_body};
+ghost use Rattle.symbols_nodes.specs.NodeTests.{default_decl_has_body, has_body, is_method};
 
 use crate::nodes::refs::{ExportDeclRef, SymbolNodeRef};
 use symbols_ast::tree::{Decl, Kind, Member, MethodKind, NodeRef};
@@ -22,7 +19,7 @@ use symbols_ast::tree::{Decl, Kind, Member, MethodKind, NodeRef};
 /// Returns the kind of the declaration after `export default`.
 fn default_kind<'a>(node: NodeRef<'a>) -> Option<&'a Kind>
     ensures { option_copied result
-        ≡ option_and_then kind_of (child_in_field (node_view node.entry) decl_of) }
+        ≡ option_and_then kind_of (child_in_field (node_view node.entry) decl_child_of) }
 {
     Some(node.decl()?.kind())
 }
@@ -131,7 +128,7 @@ impl ExportDeclRef<'_> {
 impl SymbolNodeRef<'_> {
     /// Returns whether the node is a class: without `export`, exported, or default (as deno_graph).
     pub fn is_class(&self) -> bool
-        ensures { result ≡ is_class (symbol_node_view self.now) }
+        ensures { result ≡ is_class_exported_or_not (symbol_node_view self.now) }
     {
         match self {
             SymbolNodeRef::ClassDecl(_) => true,
@@ -149,7 +146,7 @@ impl SymbolNodeRef<'_> {
     /// Returns whether the node is a function: without `export`, exported, or default (as
     /// deno_graph).
     pub fn is_function(&self) -> bool
-        ensures { result ≡ is_function (symbol_node_view self.now) }
+        ensures { result ≡ is_function_exported_or_not (symbol_node_view self.now) }
     {
         match self {
             SymbolNodeRef::FnDecl(_) => true,
@@ -164,7 +161,7 @@ impl SymbolNodeRef<'_> {
     /// Returns whether the node is an interface: without `export`, exported, or default (as
     /// deno_graph).
     pub fn is_interface(&self) -> bool
-        ensures { result ≡ is_interface (symbol_node_view self.now) }
+        ensures { result ≡ is_interface_exported_or_not (symbol_node_view self.now) }
     {
         match self {
             SymbolNodeRef::TsInterface(_) => true,
@@ -181,7 +178,7 @@ impl SymbolNodeRef<'_> {
 
     /// Returns whether the node is a namespace, exported or not (as deno_graph).
     pub fn is_ts_namespace(&self) -> bool
-        ensures { result ≡ is_ts_namespace (symbol_node_view self.now) }
+        ensures { result ≡ is_ts_namespace_exported_or_not (symbol_node_view self.now) }
     {
         match self {
             SymbolNodeRef::TsNamespace(_) => true,
@@ -193,7 +190,7 @@ impl SymbolNodeRef<'_> {
     /// Returns whether the node is a variable of `var`, `let` or `const`, exported or not. A
     /// variable of `using` isn't (as deno_graph).
     pub fn is_var(&self) -> bool
-        ensures { result ≡ is_var (symbol_node_view self.now) }
+        ensures { result ≡ is_var_exported_or_not (symbol_node_view self.now) }
     {
         match self {
             SymbolNodeRef::Var(..) => true,

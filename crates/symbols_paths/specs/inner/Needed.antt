@@ -40,8 +40,8 @@ IsSearchedInImport root module_id specifier_text name v = (m : List ℕ)
     × (resolve_specifier root.graph (specifier_in root module_id) specifier_text ≡ Some m) × IsModuleSearchedForExport root.graph m name v
 
 -- after a call: stored modules stay, and a fault is of one of these modules or of a failed allocation
-abbrev pub KeepsOrRefuses : {A : Type 0} → RootView → RootView → (List ℕ → Type 0) → Result A SymbolsFault → Type 0
-KeepsOrRefuses old new these result = HasGrownAndFailsOnlyFor old new (IsFaultOfStoringOneOf new these) result
+abbrev pub HasGrownAndFailsOnlyStoringOneOf : {A : Type 0} → RootView → RootView → (List ℕ → Type 0) → Result A SymbolsFault → Type 0
+HasGrownAndFailsOnlyStoringOneOf old new these result = HasGrownAndFailsOnlyFor old new (IsFaultOfStoringOneOf new these) result
 
 -- a star import is a declaration of its symbol
 abbrev pub IsStarImportDeclared : GraphView → DefinitionView → Type 0
@@ -49,6 +49,6 @@ IsStarImportDeclared graph x = (dep : FileDepView) → x.star ≡ Some dep
     → (decl : Declaration) × Contains (declarations_of graph x.decl.symbol) decl × (decl.kind ≡ file_ref all_names dep.specifier)
 
 -- a call stores no module but the one that a specifier resolves to
-abbrev pub StoresOnlyTarget : RootView → RootView → ModuleId → List ℕ → Type 0
-StoresOnlyTarget old new module_id specifier_text =
+abbrev pub StoresOnlyResolvedModule : RootView → RootView → ModuleId → List ℕ → Type 0
+StoresOnlyResolvedModule old new module_id specifier_text =
     AreNewlyStoredAmong old new (λ v. resolve_specifier old.graph (specifier_in old module_id) specifier_text ≡ Some v)

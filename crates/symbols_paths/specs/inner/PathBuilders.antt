@@ -18,8 +18,9 @@ use Rattle.symbols_paths.specs.declared.path_builder.PathBuilder.TheOpen as buil
 use Rattle.symbols_paths.specs.declared.path_builder.PathBuilder.TheVariants as whole_builder
 use Rattle.symbols_paths.specs.declared.path_builder.OpenedBuilder.{OpenedBuilder}
 use Rattle.symbols_paths.specs.declared.path_builder.OpenedBuilder.TheVariants as opened_builder
-use Rattle.symbols_paths.specs.PathTrees.{QualifiedNameParts, LinkHead, PathForest, leaf, no_trees, forest_of_tree, joined_forests, link_unless_empty}
-use Rattle.symbols_paths.specs.Derived.{link_head_with_parts}
+use Rattle.symbols_paths.specs.PathTrees.{QualifiedNameParts, LinkHead, PathForest, leaf, no_trees, forest_of_tree, joined_forests}
+use Rattle.symbols_paths.specs.PathTrees.{forest_below_link_unless_empty}
+use Rattle.symbols_paths.specs.Derived.{link_head_with_parts_replaced}
 use Rattle.symbols_paths.specs.Views.{decl_by_specifier, strings_view, path_leaf_of_end, module_of_end, concat_module_ids}
 use Rattle.symbols_paths.specs.inner.Views.{symbol_of_unique_id}
 
@@ -45,28 +46,29 @@ link_head_of_step root step = record {
 }
 
 -- the same links, with these parts instead of their own
-abbrev pub link_heads_with_parts : QualifiedNameParts → List LinkHead → List LinkHead
-link_heads_with_parts ps heads = map (λ head. link_head_with_parts head ps) heads
+abbrev pub link_heads_with_parts_replaced : QualifiedNameParts → List LinkHead → List LinkHead
+link_heads_with_parts_replaced ps heads = map (λ head. link_head_with_parts_replaced head ps) heads
 
 -- the links of segments, in the reverse order that segments are in
 abbrev pub concat_link_heads : List (List LinkHead) → List LinkHead
 concat_link_heads [] = []
 concat_link_heads (heads ∷ rest) = heads ++ concat_link_heads rest
 
-abbrev pub fold_segment_to_link_heads : RootView → segment.Segment-F (List LinkHead) → List LinkHead
-fold_segment_to_link_heads root (segment.LinkStep step) = link_head_of_step root step ∷ []
-fold_segment_to_link_heads root (segment.WithParts parts inner) = link_heads_with_parts (remaining_parts parts) (concat_link_heads inner.items)
+abbrev pub fold_segment_to_reversed_link_heads : RootView → segment.Segment-F (List LinkHead) → List LinkHead
+fold_segment_to_reversed_link_heads root (segment.LinkStep step) = link_head_of_step root step ∷ []
+fold_segment_to_reversed_link_heads root (segment.WithParts parts inner) = link_heads_with_parts_replaced (remaining_parts parts)
+    (concat_link_heads inner.items)
 
-abbrev pub link_heads_of_segment : RootView → Segment → List LinkHead
-link_heads_of_segment root = fold-Segment (List LinkHead) (fold_segment_to_link_heads root)
+abbrev pub reversed_link_heads_of_segment : RootView → Segment → List LinkHead
+reversed_link_heads_of_segment root = fold-Segment (List LinkHead) (fold_segment_to_reversed_link_heads root)
 
-abbrev pub link_heads_of_segments : RootView → List Segment → List LinkHead
-link_heads_of_segments root segments = concat_link_heads (map (link_heads_of_segment root) segments)
+abbrev pub reversed_link_heads_of_segments : RootView → List Segment → List LinkHead
+reversed_link_heads_of_segments root segments = concat_link_heads (map (reversed_link_heads_of_segment root) segments)
 
 -- paths, with these links in front; the first link is next to the paths
-abbrev pub forest_below_links : List LinkHead → PathForest → PathForest
-forest_below_links [] f = f
-forest_below_links (head ∷ heads) f = forest_below_links heads (link_unless_empty head f)
+abbrev pub forest_below_reversed_links : List LinkHead → PathForest → PathForest
+forest_below_reversed_links [] f = f
+forest_below_reversed_links (head ∷ heads) f = forest_below_reversed_links heads (forest_below_link_unless_empty head f)
 
 abbrev pub concat_forests : List PathForest → PathForest
 concat_forests [] = no_trees
@@ -75,9 +77,9 @@ concat_forests (f ∷ rest) = joined_forests f (concat_forests rest)
 -- the paths of a builder
 abbrev pub fold_builder_to_forest : RootView → builder.PathBuilder-F PathForest → PathForest
 fold_builder_to_forest root (builder.End segments end) =
-    forest_below_links (link_heads_of_segments root segments.items) (forest_of_tree (leaf (path_leaf_of_end root end)))
+    forest_below_reversed_links (reversed_link_heads_of_segments root segments.items) (forest_of_tree (leaf (path_leaf_of_end root end)))
 fold_builder_to_forest root (builder.Fork segments branches last) =
-    forest_below_links (link_heads_of_segments root segments.items) (joined_forests (concat_forests branches.items) last.value)
+    forest_below_reversed_links (reversed_link_heads_of_segments root segments.items) (joined_forests (concat_forests branches.items) last.value)
 
 abbrev pub built_path : RootView → PathBuilder → PathForest
 built_path root = fold-PathBuilder PathForest (fold_builder_to_forest root)

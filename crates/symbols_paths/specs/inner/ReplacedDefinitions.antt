@@ -1,10 +1,9 @@
 -- Paths with their definitions replaced.
 use Rattle.std.specs.Prelude.{ℕ, List, [], ◌∷◌, ◌++◌}
-use Rattle.symbols_paths.specs.PathTrees.{SymbolBySpecifier, DeclBySpecifier, QualifiedNameParts, DefinitionView, definition, unresolved, PathTree}
-use Rattle.symbols_paths.specs.PathTrees.{PathForest, leaf}
-use Rattle.symbols_paths.specs.PathTrees.{link, no_trees, more_trees, forest_of_tree, joined_forests, link_unless_empty}
+use Rattle.symbols_paths.specs.PathTrees.{SymbolBySpecifier, DeclBySpecifier, QualifiedNameParts, DefinitionView, definition, unresolved, PathTree, PathForest}
+use Rattle.symbols_paths.specs.PathTrees.{leaf, link, no_trees, more_trees, forest_of_tree, joined_forests, forest_below_link_unless_empty}
 use Rattle.symbols_paths.specs.PartTargets.{SearchTargets}
-use Rattle.symbols_paths.specs.Derived.{link_head_with_parts}
+use Rattle.symbols_paths.specs.Derived.{link_head_with_parts_replaced}
 use Rattle.symbols_paths.specs.Choice.{IsOutcomeOfPartsInTree}
 
 -- the definitions, from left to right
@@ -29,14 +28,16 @@ forests_after_first (g ∷ gs) = gs
 -- a tree or forest with its definitions replaced by the first of `gs`, from left to right, and what is left of `gs`; links get the parts
 -- `ps`
 abbrev mutual
-  pub rebuilt_tree : QualifiedNameParts → PathTree → List PathForest → PathForest × List PathForest
-  rebuilt_tree ps (leaf (definition x)) gs = (first_forest gs, forests_after_first gs)
-  rebuilt_tree ps (leaf (unresolved m)) gs = (forest_of_tree (leaf (unresolved m)), gs)
-  rebuilt_tree ps (link head next) gs = let r = rebuilt ps next gs in (link_unless_empty (link_head_with_parts head ps) r.0, r.1)
+  pub tree_with_definitions_replaced : QualifiedNameParts → PathTree → List PathForest → PathForest × List PathForest
+  tree_with_definitions_replaced ps (leaf (definition x)) gs = (first_forest gs, forests_after_first gs)
+  tree_with_definitions_replaced ps (leaf (unresolved m)) gs = (forest_of_tree (leaf (unresolved m)), gs)
+  tree_with_definitions_replaced ps (link head next) gs = let r = forest_with_definitions_replaced ps next gs
+      in (forest_below_link_unless_empty (link_head_with_parts_replaced head ps) r.0, r.1)
 
-  pub rebuilt : QualifiedNameParts → PathForest → List PathForest → PathForest × List PathForest
-  rebuilt ps no_trees gs = (no_trees, gs)
-  rebuilt ps (more_trees t f) gs = let r = rebuilt_tree ps t gs in let q = rebuilt ps f r.1 in (joined_forests r.0 q.0, q.1)
+  pub forest_with_definitions_replaced : QualifiedNameParts → PathForest → List PathForest → PathForest × List PathForest
+  forest_with_definitions_replaced ps no_trees gs = (no_trees, gs)
+  forest_with_definitions_replaced ps (more_trees t f) gs = let r = tree_with_definitions_replaced ps t gs in let q = forest_with_definitions_replaced ps f r.1
+      in (joined_forests r.0 q.0, q.1)
 
 -- each definition replaced, in order
 pub data ReplacesInOrder (routes : SearchTargets) (limit : ℕ) (running : List DeclBySpecifier) : List SymbolBySpecifier → List ℕ → QualifiedNameParts

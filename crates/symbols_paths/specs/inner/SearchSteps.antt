@@ -18,8 +18,8 @@ use Rattle.symbols_paths.specs.declared.part_target.PartTarget.TheVariants as re
 use Rattle.symbols_paths.specs.declared.alias_decl.AliasDecl.{AliasDecl}
 use Rattle.symbols_paths.specs.declared.path_builder.PathBuilder.{PathBuilder}
 use Rattle.symbols_paths.specs.PathTrees.{SymbolBySpecifier, DeclBySpecifier, QualifiedNameParts}
-use Rattle.symbols_paths.specs.DeclTargets.{DeclTargetView, defines, forwards, alias, forward_to_nothing, forward_within_module}
-use Rattle.symbols_paths.specs.DeclTargets.{alias_target, forward_of_import, declarations_of, target_of_decl}
+use Rattle.symbols_paths.specs.DeclTargets.{DeclTargetView, defines, forwards, alias, forward_target_to_nothing, forward_target_within_module}
+use Rattle.symbols_paths.specs.DeclTargets.{alias_target, forward_target_of_import, declarations_of, target_of_decl}
 use Rattle.symbols_paths.specs.PartTargets.{PartTargetView, part_is_symbol, itself, part_is_unresolved, search_targets_of_root}
 use Rattle.symbols_paths.specs.Choice.{IsOutcomeOfSymbolSearch, IsOutcomeOfSearchWithParts}
 use Rattle.symbols_paths.specs.Computed.{search_limit}
@@ -32,26 +32,26 @@ use Rattle.symbols_paths.specs.NeededModules.{IsFaultOfStoringOneOf}
 -- the target of a declaration, as the code returns it
 abbrev pub decl_target_view : Rules → GraphView → SymbolBySpecifier → DeclTarget → DeclTargetView
 decl_target_view rules graph s (read.Definition kind range) = defines range (star_import_view kind)
-decl_target_view rules graph s read.Nothing = forwards (forward_to_nothing s)
-decl_target_view rules graph s (read.Symbol t) = forwards (forward_within_module s (Some t))
+decl_target_view rules graph s read.Nothing = forwards (forward_target_to_nothing s)
+decl_target_view rules graph s (read.Symbol t) = forwards (forward_target_within_module s (Some t))
 decl_target_view rules graph s (read.UnresolvedId id parts) = alias_target s (id_view id.now) (remaining_parts parts) None
 decl_target_view rules graph s (read.Alias t parts) = alias (record { specifier = s.specifier; number = t }) (remaining_parts parts)
 decl_target_view rules graph s (read.Import named_import) = forwards
-    (forward_of_import rules graph s named_import.name.now named_import.specifier_text.now
+    (forward_target_of_import rules graph s named_import.name.now named_import.specifier_text.now
     (resolve_specifier graph s.specifier named_import.specifier_text.now))
 
 -- if the target is an import, the declaration is an import of this name from this specifier; if it is an alias, one of these qualifiers
-abbrev pub IsTargetImportedByDecl : DeclTarget → Declaration → Type 0
-IsTargetImportedByDecl (read.Import named_import) decl = decl.kind ≡ file_ref (one_name named_import.name.now) named_import.specifier_text.now
-IsTargetImportedByDecl (read.Alias s parts) decl = (name : IdView) × (decl.kind ≡ qualified_target name (remaining_parts parts))
-IsTargetImportedByDecl _ decl = Unit {0}
+abbrev pub IsImportOrAliasTargetOfDecl : DeclTarget → Declaration → Type 0
+IsImportOrAliasTargetOfDecl (read.Import named_import) decl = decl.kind ≡ file_ref (one_name named_import.name.now) named_import.specifier_text.now
+IsImportOrAliasTargetOfDecl (read.Alias s parts) decl = (name : IdView) × (decl.kind ≡ qualified_target name (remaining_parts parts))
+IsImportOrAliasTargetOfDecl _ decl = Unit {0}
 
 -- the declaration at an index, whose target this is
 pub record IsTargetOfDeclAtIndex (rules : Rules) (graph : GraphView) (s : SymbolBySpecifier) (index : ℕ) (decl_target : DeclTarget) : Type 0 where
   pub decl : Declaration
   pub occurs : slice_get (declarations_of graph s) index ≡ Some decl
   pub targets_so : decl_target_view rules graph s decl_target ≡ target_of_decl rules graph s decl.range decl.kind
-  pub imports : IsTargetImportedByDecl decl_target decl
+  pub imports : IsImportOrAliasTargetOfDecl decl_target decl
 
 -- a declaration of the symbol is an import of this name from this specifier
 pub record IsImportDeclared (graph : GraphView) (s : SymbolBySpecifier) (name specifier_text : List ℕ) : Type 0 where
@@ -60,32 +60,33 @@ pub record IsImportDeclared (graph : GraphView) (s : SymbolBySpecifier) (name sp
   pub imports : decl.kind ≡ file_ref (one_name name) specifier_text
 
 -- the visited symbols are of stored modules
-abbrev pub AreSymbolsStored : RootView → List UniqueSymbolId → Type 0
-AreSymbolsStored root visited = All (λ (s : UniqueSymbolId). s.module_id.0 < length root.stored) visited
+abbrev pub AreModulesOfSymbolsStored : RootView → List UniqueSymbolId → Type 0
+AreModulesOfSymbolsStored root visited = All (λ (s : UniqueSymbolId). s.module_id.0 < length root.stored) visited
 
 abbrev pub symbols_of_unique_ids : RootView → List UniqueSymbolId → List SymbolBySpecifier
 symbols_of_unique_ids root visited = map (symbol_of_unique_id root) visited
 
 -- after a step: the visited symbols and the modules of the paths are stored; no fewer symbols are visited, and no more than a set can hold
-pub record HasSearched (root : RootView) (before after : List UniqueSymbolId) (ids : List ModuleId) : Type 0 where
-  pub numbered : AreSymbolsStored root after
+pub record AreVisitedGrownAndModulesStored (root : RootView) (before after : List UniqueSymbolId) (ids : List ModuleId) : Type 0 where
+  pub numbered : AreModulesOfSymbolsStored root after
   pub longer : length before ≤ length after
   pub few : length before ≤ 2 ^ 64 → length after ≤ 2 ^ 64
   pub stored : AreModulesStored root ids
 
 -- the aliases that are being resolved are of stored modules
-abbrev pub AreAliasesStored : RootView → List AliasDecl → Type 0
-AreAliasesStored root running = All (λ (d : AliasDecl). d.«module».0 < length root.stored) running
+abbrev pub AreModulesOfAliasesStored : RootView → List AliasDecl → Type 0
+AreModulesOfAliasesStored root running = All (λ (d : AliasDecl). d.«module».0 < length root.stored) running
 
 -- before a search in this module: it is stored, and so are the modules of the visited symbols and of the aliases being resolved
-pub record IsSearchReady (root : RootView) (module_id : ModuleId) (before : List UniqueSymbolId) (running : List AliasDecl) : Type 0 where
+pub record AreModulesStoredBeforeSearch (root : RootView) (module_id : ModuleId) (before : List UniqueSymbolId) (running : List AliasDecl) : Type 0 where
   pub known : IsStored root module_id
-  pub visited : AreSymbolsStored root before
-  pub resolving : AreAliasesStored root running
+  pub visited : AreModulesOfSymbolsStored root before
+  pub resolving : AreModulesOfAliasesStored root running
 
 -- after a search that may need these modules: the root keeps what each call keeps, a fault is of one of them or of a failed allocation, and a
 -- result leaves the aliases being resolved as they were
-pub record KeepsResolving {A : Type 0} (old new : RootView) (these : List ℕ → Type 0) (running after : List AliasDecl) (result : Result A SymbolsFault) : Type 0
+pub record FailsOnlyStoringAndRestoresAliases {A : Type 0} (old new : RootView) (these : List ℕ → Type 0) (running after : List AliasDecl)
+    (result : Result A SymbolsFault) : Type 0
   where
     pub keeps : HasGrownAndFailsOnlyFor old new (IsFaultOfStoringOneOf new these) result
     pub same : OnOk result (after ≡ running)
@@ -103,10 +104,10 @@ part_target_view root read_part.Itself = itself
 part_target_view root (read_part.UnresolvedEntry missing) = part_is_unresolved (unresolved_entry_view root missing)
 
 -- the module of the target is stored
-abbrev pub IsPartStored : RootView → PartTarget → Type 0
-IsPartStored root (read_part.Symbol s) = s.module_id.0 < length root.stored
-IsPartStored root read_part.Itself = Unit {0}
-IsPartStored root (read_part.UnresolvedEntry missing) = missing.«module».0 < length root.stored
+abbrev pub IsModuleOfPartTargetStored : RootView → PartTarget → Type 0
+IsModuleOfPartTargetStored root (read_part.Symbol s) = s.module_id.0 < length root.stored
+IsModuleOfPartTargetStored root read_part.Itself = Unit {0}
+IsModuleOfPartTargetStored root (read_part.UnresolvedEntry missing) = missing.«module».0 < length root.stored
 
 -- the search of a symbol returns these paths, in every later root
 abbrev pub ArePathsFoundForSymbol : RootView → List AliasDecl → List UniqueSymbolId → UniqueSymbolId → List PathBuilder → List UniqueSymbolId → Type 0

@@ -1,10 +1,10 @@
 -- Law of the search for definitions: it has one outcome, whatever the limit. It is proved.
 use Rattle.std.proofs.Common.{◌≡◌, ℕ, ◌+◌, ◌≤◌, List, ◌∷◌, Option, refl, sym, ◌∙◌, ap, subst, arith}
 use Rattle.symbols_paths.specs.PathTrees.{SymbolBySpecifier, DeclBySpecifier, QualifiedNameParts, UnresolvedEntry, PathTree, PathForest, unresolved, leaf, link}
-use Rattle.symbols_paths.specs.PathTrees.{forest_of_tree, joined_forests, link_unless_empty}
+use Rattle.symbols_paths.specs.PathTrees.{forest_of_tree, joined_forests, forest_below_link_unless_empty}
 use Rattle.symbols_paths.specs.DeclTargets.{DeclTargetView}
 use Rattle.symbols_paths.specs.PartTargets.{part_is_symbol, part_is_unresolved, SearchTargets}
-use Rattle.symbols_paths.specs.Derived.{link_head_of_forward, alias_link_head, part_link_head, link_head_with_parts}
+use Rattle.symbols_paths.specs.Derived.{link_head_of_forward, alias_link_head, part_link_head, link_head_with_parts_replaced}
 use Rattle.symbols_paths.specs.Choice.{IsOutcomeOfSymbolSearch, already_visited, is_new, IsOutcomeOfDeclListSearch, no_decl_left, step, IsOutcomeOfDeclSearch}
 use Rattle.symbols_paths.specs.Choice.{decl_is_definition, decl_forwards, by_alias_being_resolved}
 use Rattle.symbols_paths.specs.Choice.{via_alias, IsOutcomeOfCandidateSearch, no_candidate_left, first_candidate_with_paths, candidate_has_no_path}
@@ -69,12 +69,12 @@ module _ (routes : SearchTargets) (limit : ℕ) where
         → IsOutcomeOfDeclSearch routes limit running visited s i x f a → IsOutcomeOfDeclSearch routes limit running visited s i x g b → (f ≡ g) × (a ≡ b)
     follows_once decl_is_definition decl_is_definition = (refl, refl)
     follows_once (decl_forwards {s = s} {i = i} {forward = forward} x) (decl_forwards y) = let h =
-        tries_once x y in (ap (link_unless_empty (link_head_of_forward s i forward)) h.0, h.1)
+        tries_once x y in (ap (forest_below_link_unless_empty (link_head_of_forward s i forward)) h.0, h.1)
     follows_once (by_alias_being_resolved e) (by_alias_being_resolved e') = (refl, refl)
     follows_once (by_alias_being_resolved e) (via_alias e' few fits x) = cc
     follows_once (via_alias e' few fits x) (by_alias_being_resolved e) = cc
     follows_once (via_alias {s = s} {i = i} {ps = ps} e few fits x) (via_alias e' few' fits' y) = let h = search_with_parts_has_one_outcome x y in
-        (ap (link_unless_empty (alias_link_head s i ps)) h.0, refl)
+        (ap (forest_below_link_unless_empty (alias_link_head s i ps)) h.0, refl)
 
     tries_once : {running : List DeclBySpecifier} {visited a b : List SymbolBySpecifier} {cs : List SymbolBySpecifier} {otherwise : Option UnresolvedEntry}
         {f g : PathForest}
@@ -110,11 +110,11 @@ module _ (routes : SearchTargets) (limit : ℕ) where
         → IsOutcomeOfPartsInTree routes limit running visited p ps t g a → IsOutcomeOfPartsInTree routes limit running visited p ps t h b → (g ≡ h) × (a ≡ b)
     replaces_once unresolved_leaf_is_unchanged unresolved_leaf_is_unchanged = (refl, refl)
     replaces_once (link_gets_resolved_forest {p = p} {ps = ps} {head = head} x) (link_gets_resolved_forest y) = let h =
-        replaces_all_once x y in (ap (link_unless_empty (link_head_with_parts head (p ∷ ps))) h.0, h.1)
+        replaces_all_once x y in (ap (forest_below_link_unless_empty (link_head_with_parts_replaced head (p ∷ ps))) h.0, h.1)
     replaces_once (definition_has_part {p = p} {ps = ps} {x = d} {t = u} e x) (definition_has_part {t = v} e' y) =
         let same : v ≡ u = symbols_of_same_part_target v u (sym e' ∙ e) in
         let h = search_with_parts_has_one_outcome x (resolves_at same y) in
-        (ap (link_unless_empty (part_link_head d (p ∷ ps))) h.0, h.1)
+        (ap (forest_below_link_unless_empty (part_link_head d (p ∷ ps))) h.0, h.1)
     replaces_once (definition_is_part_itself e) (definition_is_part_itself e') = (refl, refl)
     replaces_once (definition_has_no_part {p = p} {ps = ps} {x = d} {m = m} e) (definition_has_no_part {m = n} e') =
         let same : m ≡ n = entries_of_same_part_target m n (sym e ∙ e') in

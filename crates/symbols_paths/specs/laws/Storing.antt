@@ -5,7 +5,7 @@ use Rattle.std.proofs.lemmas.List.Elements.{Contains-append_right, Contains-appe
 use Rattle.std.proofs.lemmas.Option.{same_Some}
 use Rattle.symbols_table.specs.declared.info.fault.SymbolsFault.{SymbolsFault}
 use Rattle.symbols_root.specs.Specifiers.{contains_specifier}
-use Rattle.symbols_root.specs.Roots.{RootView, with_stored_module, with_stored_modules}
+use Rattle.symbols_root.specs.Roots.{RootView, root_with_stored_module, root_with_stored_modules}
 use Rattle.symbols_paths.specs.NeededModules.{IsFaultOfStoringOneOf, AreNewlyStoredAmong}
 
 -- nothing is stored
@@ -40,7 +40,7 @@ newly_stored_by_two_calls {a = a} {b = b} {P = P} {Q = Q} first next wider = rec
     by v (inr q) = inr (wider v q)
 
 -- the needed module is stored
-only_stored : (root : RootView) (needed : Option (List ℕ)) (v : List ℕ) → Contains (with_stored_module root needed).stored v
+only_stored : (root : RootView) (needed : Option (List ℕ)) (v : List ℕ) → Contains (root_with_stored_module root needed).stored v
     → Contains root.stored v ⊎ (needed ≡ Some v)
 only_stored root None v h = inl h
 only_stored root (Some s) v h = by (contains_specifier root.stored s) h
@@ -56,22 +56,22 @@ only_stored root (Some s) v h = by (contains_specifier root.stored s) h
       | inr b ↦ inr (only b)
     ]
 
-pub newly_stored_needed_module : (old new : RootView) (needed : Option (List ℕ)) → new ≡ with_stored_module old needed → AreNewlyStoredAmong old new
+pub newly_stored_needed_module : (old new : RootView) (needed : Option (List ℕ)) → new ≡ root_with_stored_module old needed → AreNewlyStoredAmong old new
     (λ v. needed ≡ Some v)
 newly_stored_needed_module old new needed same =
     subst (λ (root : RootView). AreNewlyStoredAmong old root (λ v. needed ≡ Some v)) (sym same) (record { each = only_stored old needed })
 
 -- some modules are stored
-pub newly_stored_each_of_list : (root : RootView) (specifiers : List (List ℕ)) → AreNewlyStoredAmong root (with_stored_modules root specifiers)
+pub newly_stored_each_of_list : (root : RootView) (specifiers : List (List ℕ)) → AreNewlyStoredAmong root (root_with_stored_modules root specifiers)
     (Contains specifiers)
 newly_stored_each_of_list root [] = newly_stored_none root
-newly_stored_each_of_list root (s ∷ rest) = record { each = λ v h. by v ((newly_stored_each_of_list (with_stored_module root (Some s)) rest).each v h) }
+newly_stored_each_of_list root (s ∷ rest) = record { each = λ v h. by v ((newly_stored_each_of_list (root_with_stored_module root (Some s)) rest).each v h) }
   where
     first : (v : List ℕ) → Contains root.stored v ⊎ (Some s ≡ Some v) → Contains root.stored v ⊎ Contains (s ∷ rest) v
     first v (inl h) = inl h
     first v (inr e) = inr (subst (Contains (s ∷ rest)) (same_Some s v e) (Contains-get_or (s ∷ rest) 0 s (omega arith)))
 
-    by : (v : List ℕ) → Contains (with_stored_module root (Some s)).stored v ⊎ Contains rest v → Contains root.stored v ⊎ Contains (s ∷ rest) v
+    by : (v : List ℕ) → Contains (root_with_stored_module root (Some s)).stored v ⊎ Contains rest v → Contains root.stored v ⊎ Contains (s ∷ rest) v
     by v (inl h) = first v (only_stored root (Some s) v h)
     by v (inr c) = inr (Contains-append_right (s ∷ []) rest v c)
 
@@ -88,7 +88,7 @@ end_among (m ∷ rest) v (suc k, lt, e) =
     (further.0, Contains-append_right (m ∷ []) rest (further.0, v) further.1)
 
 pub newly_stored_chain_ends : {P : List ℕ → Type 0} (old new : RootView) (reached : List (List ℕ × List ℕ))
-    → ((chain end : List ℕ) → Contains reached (chain, end) → P end) → new ≡ with_stored_modules old (map (λ (m : List ℕ × List ℕ). m.1) reached)
+    → ((chain end : List ℕ) → Contains reached (chain, end) → P end) → new ≡ root_with_stored_modules old (map (λ (m : List ℕ × List ℕ). m.1) reached)
     → AreNewlyStoredAmong old new P
 newly_stored_chain_ends {P = P} old new reached each same = subst (λ (root : RootView). AreNewlyStoredAmong old root P) (sym same)
     (newly_stored_among_more (newly_stored_each_of_list old (map end_of reached)) (λ v h. let at = end_among reached v h in each at.0 v at.1))

@@ -28,7 +28,7 @@ IsQuestionFault old new specifier question fault = IsUnknownSymbolQuestionFault 
 
 -- after a question on a stored module: stored modules stay, a fault has one of these reasons, and by the widest limits it is `OutOfMemory`
 -- or `UnknownSymbol`
-pub record IsQuestionOutcome {A : Type 0} (old new : RootView) (reasons : SymbolsFault → Type 0) (result : Result A SymbolsFault) : Type 0 where
+pub record HasGrownAndQuestionFailsOnlyFor {A : Type 0} (old new : RootView) (reasons : SymbolsFault → Type 0) (result : Result A SymbolsFault) : Type 0 where
   pub grown : HasGrown old new
   pub refused : IfErr result reasons
   pub enough : old.limits ≡ widest_limits → IfErr result (λ fault. (fault ≡ OutOfMemory) ⊎ (fault ≡ UnknownSymbol))

@@ -14,6 +14,6 @@ specifiers_of_keys keys = map (λ (key : Bor (List ℕ)). key.now) keys
 
 -- after a call for the inputs of a query: stored modules stay, newly stored are only such as it needs, and a fault is that of storing one of
 -- them
-pub record KeepsForInputs {A : Type 0} (old new : RootView) (query : QueryView) (result : Result A SymbolsFault) : Type 0 where
+pub record HasGrownAndInputsFailOnlyStoring {A : Type 0} (old new : RootView) (query : QueryView) (result : Result A SymbolsFault) : Type 0 where
   pub keeps : HasGrownAndFailsOnlyFor old new (IsFaultOfStoringOneOf new (IsNeededForInputs old.graph query)) result
   pub stores : AreNewlyStoredAmong old new (IsNeededForInputs old.graph query)

@@ -10,7 +10,7 @@ use Rattle.std.proofs.lemmas.List.{get_or_append_left, length-append}
 use Rattle.std.proofs.lemmas.Map.Keys.{IsDistinct-push}
 use Rattle.symbols_ast.specs.declared.ids.ModuleId.{ModuleId}
 use Rattle.symbols_root.specs.Specifiers.{contains_specifier}
-use Rattle.symbols_root.specs.Roots.{RootView, with_stored_module, with_stored_modules, specifier_in}
+use Rattle.symbols_root.specs.Roots.{RootView, root_with_stored_module, root_with_stored_modules, specifier_in}
 use Rattle.symbols_root.specs.Growing.{HasGrown}
 
 -- ---- roots
@@ -39,7 +39,7 @@ once_more stored v once = by (contains_specifier stored v) refl
     by false is = IsDistinct-push nat_list_eq_equiv stored v once is
 
 -- a root grows by storing the needed module
-pub has_grown_by_stored_module : (root : RootView) (needed : Option (List ℕ)) → HasGrown root (with_stored_module root needed)
+pub has_grown_by_stored_module : (root : RootView) (needed : Option (List ℕ)) → HasGrown root (root_with_stored_module root needed)
 has_grown_by_stored_module root None = has_grown_refl root
 has_grown_by_stored_module root (Some v) =
     let added = by (contains_specifier root.stored v) in
@@ -50,10 +50,10 @@ has_grown_by_stored_module root (Some v) =
     by false = (v ∷ [], refl)
 
 -- a root grows by storing some modules
-pub has_grown_by_stored_modules : (root : RootView) (specifiers : List (List ℕ)) → HasGrown root (with_stored_modules root specifiers)
+pub has_grown_by_stored_modules : (root : RootView) (specifiers : List (List ℕ)) → HasGrown root (root_with_stored_modules root specifiers)
 has_grown_by_stored_modules root [] = has_grown_refl root
 has_grown_by_stored_modules root (v ∷ rest) =
-    has_grown_trans (has_grown_by_stored_module root (Some v)) (has_grown_by_stored_modules (with_stored_module root (Some v)) rest)
+    has_grown_trans (has_grown_by_stored_module root (Some v)) (has_grown_by_stored_modules (root_with_stored_module root (Some v)) rest)
 
 -- ---- numbers
 

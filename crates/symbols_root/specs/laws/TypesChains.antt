@@ -11,8 +11,9 @@ use Rattle.symbols_ast.specs.Graph.{GraphView, ModuleView, module_after_redirect
 use Rattle.symbols_graph.specs.GraphFaults.{module_specifiers}
 use Rattle.symbols_root.specs.Specifiers.{module_with_specifier, contains_specifier}
 use Rattle.symbols_root.specs.TypesChains.{types_module, types_chain_from, types_chain, AreTypesModulesFrom, IsTypesChain, IsUniqueTypesChain}
-use Rattle.symbols_root.specs.laws.Specifiers.{laws, empty_list_is_distinct, AreSpecifiersOfModulesIn, none_in, pushed_specifiers_are_in_graph, no_more}
-use Rattle.symbols_root.specs.laws.Specifiers.{not_before, redirected_module_has_its_specifier, types_module_has_its_specifier}
+use Rattle.symbols_root.specs.laws.Specifiers.{bytes_eq_is_equivalence, empty_list_is_distinct, AreSpecifiersOfModulesIn, empty_list_is_of_modules_in_graph}
+use Rattle.symbols_root.specs.laws.Specifiers.{pushed_specifiers_are_in_graph, distinct_specifiers_are_at_most_modules, distinct_element_is_not_before_itself}
+use Rattle.symbols_root.specs.laws.Specifiers.{redirected_module_has_its_specifier, types_module_has_its_specifier}
 
 module _ (graph : GraphView) where
   -- ---- one step of the chain
@@ -35,11 +36,12 @@ module _ (graph : GraphView) where
   types_chain_from_new_module n before m is = ap (λ b. if b then [] else m ∷ types_chain_from graph n (before ++ m.specifier ∷ []) (types_module graph m)) is
 
   -- a new module of the graph is one of the modules not counted before
-  pub room : (before : List (List ℕ)) (m : ModuleView) → IsDistinct bytes_eq before → AreSpecifiersOfModulesIn graph before
+  pub new_module_fits_in_module_count : (before : List (List ℕ)) (m : ModuleView) → IsDistinct bytes_eq before → AreSpecifiersOfModulesIn graph before
       → module_with_specifier graph m.specifier ≡ Some m
       → contains_specifier before m.specifier ≡ false → length before + 1 ≤ length graph.modules
-  room before m once inside under new =
-      let more = no_more graph (before ++ m.specifier ∷ []) (IsDistinct-push laws before m.specifier once new)
+  new_module_fits_in_module_count before m once inside under new =
+      let more = distinct_specifiers_are_at_most_modules graph (before ++ m.specifier ∷ [])
+      (IsDistinct-push bytes_eq_is_equivalence before m.specifier once new)
       (pushed_specifiers_are_in_graph graph before m inside under) in
       omega (arith, more, length_push before m.specifier)
 
@@ -58,12 +60,13 @@ module _ (graph : GraphView) where
       by true rest = tt
       by false rest = (refl, rest)
 
-  pub once_each : (n : ℕ) (before : List (List ℕ)) (found : Option ModuleView) → IsDistinct bytes_eq before
+  pub types_chain_from_is_distinct : (n : ℕ) (before : List (List ℕ)) (found : Option ModuleView) → IsDistinct bytes_eq before
       → IsDistinct bytes_eq (before ++ module_specifiers (types_chain_from graph n before found))
   unfolding types_chain_from
-  once_each zero before found once = subst (IsDistinct bytes_eq) (sym (append-nil before)) once
-  once_each (suc n) before None once = subst (IsDistinct bytes_eq) (sym (append-nil before)) once
-  once_each (suc n) before (Some m) once = by (contains_specifier before m.specifier) refl (once_each n (before ++ m.specifier ∷ []) (types_module graph m))
+  types_chain_from_is_distinct zero before found once = subst (IsDistinct bytes_eq) (sym (append-nil before)) once
+  types_chain_from_is_distinct (suc n) before None once = subst (IsDistinct bytes_eq) (sym (append-nil before)) once
+  types_chain_from_is_distinct (suc n) before (Some m) once = by (contains_specifier before m.specifier) refl
+      (types_chain_from_is_distinct n (before ++ m.specifier ∷ []) (types_module graph m))
     where
       by : (b : Bool) → contains_specifier before m.specifier ≡ b
           → (IsDistinct bytes_eq (before ++ m.specifier ∷ []) → IsDistinct bytes_eq ((before ++ m.specifier ∷ [])
@@ -71,7 +74,7 @@ module _ (graph : GraphView) where
           → IsDistinct bytes_eq
           (before ++ module_specifiers (if b then [] else m ∷ types_chain_from graph n (before ++ m.specifier ∷ []) (types_module graph m)))
       by true is rest = subst (IsDistinct bytes_eq) (sym (append-nil before)) once
-      by false is rest = rw append_assoc at (rest (IsDistinct-push laws before m.specifier once is))
+      by false is rest = rw append_assoc at (rest (IsDistinct-push bytes_eq_is_equivalence before m.specifier once is))
 
   -- ---- no such list is longer
 
@@ -82,11 +85,12 @@ module _ (graph : GraphView) where
       → IsDistinct bytes_eq (before ++ module_specifiers other) → length other ≤ length (types_chain_from graph n before found)
   no_types_path_is_longer n before found [] enough once inside there are distinct = omega arith
   no_types_path_is_longer zero before found (m ∷ rest) enough once inside there are distinct =
-      let r = room before m once inside (there m are.0) (not_before before (module_specifiers rest) m.specifier distinct) in
+      let r = new_module_fits_in_module_count before m once inside (there m are.0)
+      (distinct_element_is_not_before_itself before (module_specifiers rest) m.specifier distinct) in
       absurd (omega (arith, r, enough))
   no_types_path_is_longer (suc n) before found (m ∷ rest) enough once inside there are distinct =
-      let new = not_before before (module_specifiers rest) m.specifier distinct in
-      let push = IsDistinct-push laws before m.specifier once new in
+      let new = distinct_element_is_not_before_itself before (module_specifiers rest) m.specifier distinct in
+      let push = IsDistinct-push bytes_eq_is_equivalence before m.specifier once new in
       let more = no_types_path_is_longer n (before ++ m.specifier ∷ []) (types_module graph m) rest (omega (arith, enough, length_push before m.specifier)) push
       (pushed_specifiers_are_in_graph graph before m inside (there m are.0))
       (types_module_has_its_specifier graph (content_types_dependency m.content)) are.1
@@ -95,14 +99,14 @@ module _ (graph : GraphView) where
 
   -- ---- the types chain
 
-  pub is_chain : (specifier : List ℕ) → IsTypesChain graph specifier (types_chain graph specifier)
-  is_chain specifier = record {
+  pub types_chain_satisfies_its_definition : (specifier : List ℕ) → IsTypesChain graph specifier (types_chain graph specifier)
+  types_chain_satisfies_its_definition specifier = record {
     is_types_dependency_path = record {
       in_order = follows_types_dependencies (length graph.modules) [] (module_after_redirect graph specifier);
-      has_no_duplicates = once_each (length graph.modules) [] (module_after_redirect graph specifier) empty_list_is_distinct;
+      has_no_duplicates = types_chain_from_is_distinct (length graph.modules) [] (module_after_redirect graph specifier) empty_list_is_distinct;
     };
     is_longest = λ other follows. no_types_path_is_longer (length graph.modules) [] (module_after_redirect graph specifier) other
-        (omega arith) empty_list_is_distinct (none_in graph)
+        (omega arith) empty_list_is_distinct (empty_list_is_of_modules_in_graph graph)
         (redirected_module_has_its_specifier graph specifier) follows.in_order follows.has_no_duplicates;
   }
 
@@ -119,7 +123,7 @@ module _ (graph : GraphView) where
 
   pub types_chain_is_unique : (specifier : List ℕ) → IsUniqueTypesChain graph specifier (types_chain graph specifier)
   types_chain_is_unique specifier =
-      let stored_specifier = is_chain specifier in
+      let stored_specifier = types_chain_satisfies_its_definition specifier in
       record {
         is_chain = stored_specifier;
         only = λ other is.

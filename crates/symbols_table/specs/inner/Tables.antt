@@ -17,20 +17,18 @@ use Rattle.symbols_table.specs.inner.Symbols.{IsSymbolOfChanges}
 use Rattle.symbols_table.specs.Laws.{IsLawfulParent}
 use Rattle.symbols_table.specs.ModuleViews.{identifier_bindings_view, export_star_view}
 use Rattle.symbols_table.specs.Changes.{Change, adds_symbol, adds_decl, exports, adds_child, adds_member, maps, re_exports_all, is_same_symbol_id}
-use Rattle.symbols_table.specs.Changes.{parents_after}
-use Rattle.symbols_table.specs.Changes.{decls_after, exports_after, children_after, members_after, export_stars_after, symbol_of_ident_after_changes}
-use Rattle.symbols_table.specs.Changes.{first_child_named}
-use Rattle.symbols_table.specs.Changes.{first_member_named}
+use Rattle.symbols_table.specs.Changes.{parents_after_changes, decls_after_changes, exports_after_changes, children_after_changes, members_after_changes}
+use Rattle.symbols_table.specs.Changes.{export_stars_after_changes, symbol_of_ident_after_changes, first_child_named, first_member_named}
 use Rattle.symbols_table.specs.Events.{EventEffect, changes_of_effects, symbol_of_event_at, effects_after_events}
 use Rattle.symbols_table.specs.EventsByHolderAndStart.{EventsByHolderAndStart}
 use Rattle.symbols_table.specs.DeclViews.{decl_name}
 
 -- The changes concern no symbol of number s.
 pub record HasNoChanges (changes : List Change) (s : SymbolId) : Type 0 where
-  pub decls : decls_after changes s ≡ []
-  pub exports : exports_after changes s ≡ []
-  pub children : children_after changes s ≡ []
-  pub members : members_after changes s ≡ []
+  pub decls : decls_after_changes changes s ≡ []
+  pub exports : exports_after_changes changes s ≡ []
+  pub children : children_after_changes changes s ≡ []
+  pub members : members_after_changes changes s ≡ []
 
 -- The change names only symbols below the count.
 abbrev pub NamesSymbolsBelow : ℕ → Change → Type 0
@@ -65,7 +63,7 @@ abbrev pub symbol_by_local_name : {S : Type 0} → HashMap LocalName SymbolId S 
 symbol_by_local_name names q = get_symbol is_same_local_name names q
 
 pub record HasAppliedChanges (b : ModuleBuilder) (changes : List Change) : Type 0 where
-  pub count : length b.symbols.items ≡ length (parents_after changes)
+  pub count : length b.symbols.items ≡ length (parents_after_changes changes)
   pub symbols : (s : SymbolId) (d : Symbol) → s.0 < length b.symbols.items
       → IsSymbolOfChanges b.setting.module_id changes s (slice_index_or b.symbols.items s.0 d)
   pub has_no_changes_beyond_count : (s : SymbolId) → length b.symbols.items ≤ s.0 → HasNoChanges changes s
@@ -73,12 +71,12 @@ pub record HasAppliedChanges (b : ModuleBuilder) (changes : List Change) : Type 
   -- The children of the module's own symbol are not looked up by name.
   pub child_names : (q : LocalName) → 0 < q.holder.0 → symbol_by_local_name b.child_names q ≡ first_child_named changes q.holder (cow_str_bytes q.name)
   pub member_names : (q : LocalName) → symbol_by_local_name b.member_names q ≡ first_member_named changes q.holder (cow_str_bytes q.name)
-  pub stars : map export_star_view b.stars.items ≡ export_stars_after changes
+  pub stars : map export_star_view b.stars.items ≡ export_stars_after_changes changes
   pub few : length b.symbols.items ≤ b.setting.limit
   pub sound : All (NamesSymbolsBelow (length b.symbols.items)) changes
   pub apart : All DoesNotBindOrExportModuleSymbol changes
-  pub has_lawful_parents : (n : ℕ) (parent : Option SymbolId) → slice_get (parents_after changes) n ≡ Some parent → IsLawfulParent n parent
-  pub declared : (s : SymbolId) → s.0 < length b.symbols.items → 0 < length (decls_after changes s)
+  pub has_lawful_parents : (n : ℕ) (parent : Option SymbolId) → slice_get (parents_after_changes changes) n ≡ Some parent → IsLawfulParent n parent
+  pub declared : (s : SymbolId) → s.0 < length b.symbols.items → 0 < length (decls_after_changes changes s)
 
 abbrev pub HasValidTable : ModuleBuilder → Type 0
 HasValidTable b = (changes : List Change) × HasAppliedChanges b changes
@@ -88,21 +86,21 @@ abbrev pub AppliesEffectAndReturnsSymbol : {A : Type 0} → Result A BuildFault 
 AppliesEffectAndReturnsSymbol result symbol limit new before row =
     MatchResult result
     (λ x. (row.symbol ≡ symbol x) × HasAppliedChanges new (before ++ row.changes))
-    (λ fault. fault ≡ TooManySymbols → limit < length (parents_after (before ++ row.changes)))
+    (λ fault. fault ≡ TooManySymbols → limit < length (parents_after_changes (before ++ row.changes)))
 
 -- A call that applies several events, by their rows.
 abbrev pub AppliesEffects : {A : Type 0} → Result A BuildFault → ℕ → ModuleBuilder → List EventEffect → Type 0
 AppliesEffects result limit new rows =
     MatchResult result
     (λ _. HasAppliedChanges new (changes_of_effects rows))
-    (λ fault. fault ≡ TooManySymbols → limit < length (parents_after (changes_of_effects rows)))
+    (λ fault. fault ≡ TooManySymbols → limit < length (parents_after_changes (changes_of_effects rows)))
 
 -- A call that applies one event whose symbol no other event refers to.
 abbrev pub AppliesEffectChanges : {A : Type 0} → Result A BuildFault → ℕ → ModuleBuilder → List Change → EventEffect → Type 0
 AppliesEffectChanges result limit new before row =
     MatchResult result
     (λ _. HasAppliedChanges new (before ++ row.changes))
-    (λ fault. fault ≡ TooManySymbols → limit < length (parents_after (before ++ row.changes)))
+    (λ fault. fault ≡ TooManySymbols → limit < length (parents_after_changes (before ++ row.changes)))
 
 -- A call that applies the events of a part of a tree under a holder, whatever events came before.
 abbrev pub AppliesEventsUnderHolder : {A : Type 0} → Result A BuildFault → ModuleBuilder → ModuleBuilder → EventsByHolderAndStart → SymbolId → Type 0

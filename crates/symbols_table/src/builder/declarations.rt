@@ -11,7 +11,7 @@ ghost use Rattle.symbols_table.specs.Events.{EventEffect, effects_after_events, 
 ghost use Rattle.symbols_table.specs.Events.{changes_of_effects};
 ghost use Rattle.symbols_table.specs.EventsByHolderAndStart.{no_events_by_holder_and_start, events_if_some};
 ghost use Rattle.symbols_table.specs.EventsByHolderAndStart.{events_of_each};
-ghost use Rattle.symbols_table.specs.MemberEvents.{member_events_at, member_nodes};
+ghost use Rattle.symbols_table.specs.MemberEvents.{member_events_at, class_or_interface_member_numbers};
 ghost use Rattle.symbols_table.specs.DeclarationEvents.{unexported_node_view, maybe_exported_node};
 ghost use Rattle.symbols_table.specs.DeclarationEvents.{export_or_decl_range, is_exported};
 ghost use Rattle.symbols_table.specs.DeclarationEvents.{export_event_if, child_and_export_events};
@@ -141,7 +141,7 @@ fn variable_node<'a>(
 impl<'a> ModuleBuilder<'a> {
     ghost use Rattle.symbols_table.specs.inner.Tables.{HasAppliedChanges, HasValidTable};
     ghost use Rattle.symbols_table.specs.inner.Tables.{AppliesEffects, AppliesEventsUnderHolder};
-    ghost use Rattle.symbols_table.specs.inner.ModuleBuilderSteps.{KeepsTableValid};
+    ghost use Rattle.symbols_table.specs.inner.ModuleBuilderSteps.{LeavesValidTableWithNoFewerSymbols};
 
     /// Exports the symbol under the name, if it is exported.
     pub(crate) fn export_event_if(
@@ -155,7 +155,7 @@ impl<'a> ModuleBuilder<'a> {
         requires holder { holder.0 < length self.old.symbols.items }
         requires symbol { symbol.0 < length self.old.symbols.items }
         requires inner { 0 < symbol.0 }
-        ensures keeps { KeepsTableValid result self.old self.new }
+        ensures keeps { LeavesValidTableWithNoFewerSymbols result self.old self.new }
         ensures table { (rows : List EventEffect) (h s : ℕ) → HasAppliedChanges self.old (changes_of_effects rows)
             → symbol_of_event_at rows h ≡ Some holder → symbol_of_event_at rows s ≡ Some symbol
             → AppliesEffects result self.old.setting.limit self.new (effects_after_events rows
@@ -179,7 +179,7 @@ impl<'a> ModuleBuilder<'a> {
         requires holder { holder.0 < length self.old.symbols.items }
         requires symbol { symbol.0 < length self.old.symbols.items }
         requires inner { 0 < symbol.0 }
-        ensures keeps { KeepsTableValid result self.old self.new }
+        ensures keeps { LeavesValidTableWithNoFewerSymbols result self.old self.new }
         ensures table { (rows : List EventEffect) (h s : ℕ) → HasAppliedChanges self.old (changes_of_effects rows)
             → symbol_of_event_at rows h ≡ Some holder → symbol_of_event_at rows s ≡ Some symbol
             → AppliesEffects result self.old.setting.limit self.new (effects_after_events rows
@@ -199,7 +199,7 @@ impl<'a> ModuleBuilder<'a> {
     ) -> Result<(), BuildFault>
         requires filled { HasValidTable self.old }
         requires holder { holder.0 < length self.old.symbols.items }
-        ensures keeps { KeepsTableValid result self.old self.new }
+        ensures keeps { LeavesValidTableWithNoFewerSymbols result self.old self.new }
         ensures table { AppliesEventsUnderHolder result self.old self.new (declare_and_add_events is_exported
             (id_view id.now) (decl_view decl.entry) no_events_by_holder_and_start) holder }
     {
@@ -217,7 +217,7 @@ impl<'a> ModuleBuilder<'a> {
     ) -> Result<(), BuildFault>
         requires filled { HasValidTable self.old }
         requires holder { holder.0 < length self.old.symbols.items }
-        ensures keeps { KeepsTableValid result self.old self.new }
+        ensures keeps { LeavesValidTableWithNoFewerSymbols result self.old self.new }
         ensures table { AppliesEventsUnderHolder result self.old self.new
             (binding_events_at (variable_statement_view variables.entry) (node_view declarator.entry) n) holder }
     {
@@ -247,7 +247,7 @@ impl<'a> ModuleBuilder<'a> {
     ) -> Result<(), BuildFault>
         requires filled { HasValidTable self.old }
         requires holder { holder.0 < length self.old.symbols.items }
-        ensures keeps { KeepsTableValid result self.old self.new }
+        ensures keeps { LeavesValidTableWithNoFewerSymbols result self.old self.new }
         ensures table { AppliesEventsUnderHolder result self.old self.new (events_of_each
             (binding_events_at (variable_statement_view variables.entry) (node_view declarator.entry)) names.now)
             holder }
@@ -268,7 +268,7 @@ impl<'a> ModuleBuilder<'a> {
         requires well_formed { IsWellFormedTree variables.decl.tree.now.nodes.items }
         requires filled { HasValidTable self.old }
         requires holder { holder.0 < length self.old.symbols.items }
-        ensures keeps { KeepsTableValid result self.old self.new }
+        ensures keeps { LeavesValidTableWithNoFewerSymbols result self.old self.new }
         ensures table { AppliesEventsUnderHolder result self.old self.new
             (declarator_events_at (variable_statement_view variables.entry) n) holder }
     {
@@ -294,7 +294,7 @@ impl<'a> ModuleBuilder<'a> {
         requires well_formed { IsWellFormedTree variables.decl.tree.now.nodes.items }
         requires filled { HasValidTable self.old }
         requires holder { holder.0 < length self.old.symbols.items }
-        ensures keeps { KeepsTableValid result self.old self.new }
+        ensures keeps { LeavesValidTableWithNoFewerSymbols result self.old self.new }
         ensures table { AppliesEventsUnderHolder result self.old self.new
             (variable_statement_events (variable_statement_view variables.entry)) holder }
     {
@@ -315,10 +315,11 @@ impl<'a> ModuleBuilder<'a> {
     ) -> Result<(), BuildFault>
         requires filled { HasValidTable self.old }
         requires holder { holder.0 < length self.old.symbols.items }
-        ensures keeps { KeepsTableValid result self.old self.new }
+        ensures keeps { LeavesValidTableWithNoFewerSymbols result self.old self.new }
         ensures table { AppliesEventsUnderHolder result self.old self.new
             (declare_and_add_events is_exported (id_view id.now) (decl_view decl.entry)
-            (events_of_each (member_events_at node.entry.tree.now) (member_nodes (node_view node.entry))))
+            (events_of_each (member_events_at node.entry.tree.now)
+            (class_or_interface_member_numbers (node_view node.entry))))
             holder }
     {
         let symbol = self.declare(holder, id, decl)?;
@@ -337,7 +338,7 @@ impl<'a> ModuleBuilder<'a> {
     ) -> Result<(), BuildFault>
         requires filled { HasValidTable self.old }
         requires holder { holder.0 < length self.old.symbols.items }
-        ensures keeps { KeepsTableValid result self.old self.new }
+        ensures keeps { LeavesValidTableWithNoFewerSymbols result self.old self.new }
         ensures table { AppliesEventsUnderHolder result self.old self.new
             (named_decl_events scope (option_map node_view exported.entry) (node_view node.entry)
             (export_decl_view form.entry)) holder }
@@ -363,7 +364,7 @@ impl<'a> ModuleBuilder<'a> {
         requires well_formed { IsWellFormedTree node.tree.now.nodes.items }
         requires filled { HasValidTable self.old }
         requires holder { holder.0 < length self.old.symbols.items }
-        ensures keeps { KeepsTableValid result self.old self.new }
+        ensures keeps { LeavesValidTableWithNoFewerSymbols result self.old self.new }
         ensures table { AppliesEventsUnderHolder result self.old self.new
             (events_if_some (kind_of (node_view node.entry))
             (declaration_events scope (option_map node_view exported.entry) (node_view node.entry)))

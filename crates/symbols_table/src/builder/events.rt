@@ -5,14 +5,13 @@ ghost use Rattle.std.specs.Prelude.{OnOk, IfErr, IfSome, Some, None, if◌then�
 ghost use Rattle.std.specs.Cow.{cow_str_bytes};
 ghost use Rattle.symbols_ast.specs.Ids.{id_view};
 ghost use Rattle.symbols_table.specs.DeclViews.{decl_view, is_definition};
-ghost use Rattle.symbols_table.specs.Changes.{Change, exports, adds_child, maps, exported_symbol};
+ghost use Rattle.symbols_table.specs.Changes.{Change, exports, adds_child, maps, exported_symbol_after_changes};
 ghost use Rattle.symbols_table.specs.Changes.{symbol_of_ident_after_changes};
 ghost use Rattle.symbols_table.specs.declared.builder.table.BuildFault.TheVariants.{OutOfMemory};
-ghost use Rattle.symbols_table.specs.Events.{default_export_name, declare_effect};
-ghost use Rattle.symbols_table.specs.Events.{new_symbol_effect, declare_alias_effect};
-ghost use Rattle.symbols_table.specs.Events.{default_export_effect};
-ghost use Rattle.symbols_table.specs.Events.{find_member_symbol, new_member_changes};
-ghost use Rattle.symbols_table.specs.Events.{named_member_effect, member_effect, expando_effect};
+ghost use Rattle.symbols_table.specs.Events.{default_export_name, declare_effect, new_symbol_effect};
+ghost use Rattle.symbols_table.specs.Events.{declare_alias_unless_bound_effect, default_export_effect};
+ghost use Rattle.symbols_table.specs.Events.{find_member_symbol, new_member_changes, named_member_effect};
+ghost use Rattle.symbols_table.specs.Events.{member_effect, expando_effect};
 
 use crate::builder::names::LocalName;
 use crate::builder::table::{BuildFault, ModuleBuilder};
@@ -27,8 +26,8 @@ impl<'a> ModuleBuilder<'a> {
     ghost use Rattle.symbols_table.specs.inner.Tables.{HasAppliedChanges, HasValidTable};
     ghost use Rattle.symbols_table.specs.inner.Tables.{AppliesEffectAndReturnsSymbol};
     ghost use Rattle.symbols_table.specs.inner.Tables.{AppliesEffectChanges};
-    ghost use Rattle.symbols_table.specs.inner.ModuleBuilderSteps.{KeepsTableValid};
-    ghost use Rattle.symbols_table.specs.inner.ModuleBuilderSteps.{KeepsSymbolCount};
+    ghost use Rattle.symbols_table.specs.inner.ModuleBuilderSteps.{LeavesValidTableWithNoFewerSymbols};
+    ghost use Rattle.symbols_table.specs.inner.ModuleBuilderSteps.{LeavesSymbolCountUnchanged};
 
     /// Adds a new symbol and binds the identifier to it.
     fn declare_new(
@@ -41,7 +40,7 @@ impl<'a> ModuleBuilder<'a> {
         requires holder { holder.0 < length self.old.symbols.items }
         ensures inside { IfOk result (λ s. s.0 < length self.new.symbols.items) }
         ensures inner { IfOk result (λ s. 0 < s.0) }
-        ensures keeps { KeepsTableValid result self.old self.new }
+        ensures keeps { LeavesValidTableWithNoFewerSymbols result self.old self.new }
         ensures table { (changes : List Change) → HasAppliedChanges self.old changes
             → AppliesEffectAndReturnsSymbol result (λ s. Some s) self.old.setting.limit self.new changes
             (new_symbol_effect changes (Some holder) (decl_view decl.entry)
@@ -64,7 +63,7 @@ impl<'a> ModuleBuilder<'a> {
         requires holder { holder.0 < length self.old.symbols.items }
         ensures inside { IfOk result (λ s. s.0 < length self.new.symbols.items) }
         ensures inner { IfOk result (λ s. 0 < s.0) }
-        ensures keeps { KeepsTableValid result self.old self.new }
+        ensures keeps { LeavesValidTableWithNoFewerSymbols result self.old self.new }
         ensures table { (changes : List Change) → HasAppliedChanges self.old changes
             → AppliesEffectAndReturnsSymbol result (λ s. Some s) self.old.setting.limit self.new changes (declare_effect
             changes holder (id_view id.now) (decl_view decl.entry)) }
@@ -88,10 +87,10 @@ impl<'a> ModuleBuilder<'a> {
         requires holder { holder.0 < length self.old.symbols.items }
         ensures inside { IfOk result (λ s. s.0 < length self.new.symbols.items) }
         ensures inner { IfOk result (λ s. 0 < s.0) }
-        ensures keeps { KeepsTableValid result self.old self.new }
+        ensures keeps { LeavesValidTableWithNoFewerSymbols result self.old self.new }
         ensures table { (changes : List Change) → HasAppliedChanges self.old changes
             → AppliesEffectAndReturnsSymbol result (λ s. Some s) self.old.setting.limit self.new
-            changes (declare_alias_effect changes
+            changes (declare_alias_unless_bound_effect changes
             holder (id_view id.now) (decl_view decl.entry)) }
     {
         match self.mapped_symbol(id) {
@@ -105,7 +104,7 @@ impl<'a> ModuleBuilder<'a> {
         requires filled { HasValidTable self.now }
         requires holder { holder.0 < length self.now.symbols.items }
         ensures table { (changes : List Change) → HasAppliedChanges self.now changes
-            → result ≡ exported_symbol changes holder name.now }
+            → result ≡ exported_symbol_after_changes changes holder name.now }
         ensures inside { IfSome result (λ s. s.0 < length self.now.symbols.items) }
         ensures inner { IfSome result (λ s. 0 < s.0) }
     {
@@ -123,7 +122,7 @@ impl<'a> ModuleBuilder<'a> {
         requires holder { holder.0 < length self.old.symbols.items }
         ensures inside { IfOk result (λ s. s.0 < length self.new.symbols.items) }
         ensures inner { IfOk result (λ s. 0 < s.0) }
-        ensures keeps { KeepsTableValid result self.old self.new }
+        ensures keeps { LeavesValidTableWithNoFewerSymbols result self.old self.new }
         ensures table { (changes : List Change) → HasAppliedChanges self.old changes
             → AppliesEffectAndReturnsSymbol result (λ s. Some s) self.old.setting.limit self.new changes
             (new_symbol_effect changes (Some holder) (decl_view decl.entry)
@@ -150,7 +149,7 @@ impl<'a> ModuleBuilder<'a> {
         requires holder { holder.0 < length self.old.symbols.items }
         ensures inside { IfOk result (λ s. s.0 < length self.new.symbols.items) }
         ensures inner { IfOk result (λ s. 0 < s.0) }
-        ensures keeps { KeepsTableValid result self.old self.new }
+        ensures keeps { LeavesValidTableWithNoFewerSymbols result self.old self.new }
         ensures table { (changes : List Change) → HasAppliedChanges self.old changes
             → AppliesEffectAndReturnsSymbol result (λ s. Some s) self.old.setting.limit self.new
             changes (default_export_effect
@@ -195,7 +194,7 @@ impl<'a> ModuleBuilder<'a> {
         requires holder { key.now.holder.0 < length self.old.symbols.items }
         requires symbol { symbol.0 < length self.old.symbols.items }
         requires inner { 0 < symbol.0 }
-        ensures keeps { KeepsSymbolCount result self.old self.new }
+        ensures keeps { LeavesSymbolCountUnchanged result self.old self.new }
         ensures table { OnOk result ((changes : List Change) → HasAppliedChanges self.old changes
             → HasAppliedChanges self.new (changes ++ new_member_changes key.now.holder is_static (Some
             (cow_str_bytes key.now.name)) symbol)) }
@@ -218,7 +217,7 @@ impl<'a> ModuleBuilder<'a> {
         requires filled { HasValidTable self.old }
         requires holder { key.now.holder.0 < length self.old.symbols.items }
         ensures inside { IfOk result (λ s. s.0 < length self.new.symbols.items) }
-        ensures keeps { KeepsTableValid result self.old self.new }
+        ensures keeps { LeavesValidTableWithNoFewerSymbols result self.old self.new }
         ensures table { (changes : List Change) → HasAppliedChanges self.old changes
             → AppliesEffectAndReturnsSymbol result (λ s. Some s) self.old.setting.limit self.new changes
             (new_symbol_effect changes (Some key.now.holder) (decl_view decl.entry)
@@ -241,7 +240,7 @@ impl<'a> ModuleBuilder<'a> {
         requires holder { key.now.holder.0 < length self.old.symbols.items }
         requires inner { 0 < key.now.holder.0 }
         ensures inside { IfOk result (λ s. s.0 < length self.new.symbols.items) }
-        ensures keeps { KeepsTableValid result self.old self.new }
+        ensures keeps { LeavesValidTableWithNoFewerSymbols result self.old self.new }
         ensures table { (changes : List Change) → HasAppliedChanges self.old changes
             → AppliesEffectAndReturnsSymbol result (λ s. Some s) self.old.setting.limit self.new changes
             (named_member_effect changes key.now.holder (decl_view decl.entry) is_static
@@ -265,7 +264,7 @@ impl<'a> ModuleBuilder<'a> {
         requires filled { HasValidTable self.old }
         requires holder { holder.0 < length self.old.symbols.items }
         ensures inside { IfOk result (λ s. s.0 < length self.new.symbols.items) }
-        ensures keeps { KeepsTableValid result self.old self.new }
+        ensures keeps { LeavesValidTableWithNoFewerSymbols result self.old self.new }
         ensures table { (changes : List Change) → HasAppliedChanges self.old changes
             → AppliesEffectAndReturnsSymbol result (λ s. Some s) self.old.setting.limit self.new
             changes (named_member_effect
@@ -292,7 +291,7 @@ impl<'a> ModuleBuilder<'a> {
         requires holder { holder.0 < length self.old.symbols.items }
         requires inner { 0 < holder.0 }
         ensures inside { IfOk result (λ s. s.0 < length self.new.symbols.items) }
-        ensures keeps { KeepsTableValid result self.old self.new }
+        ensures keeps { LeavesValidTableWithNoFewerSymbols result self.old self.new }
         ensures table { (changes : List Change) → HasAppliedChanges self.old changes
             → AppliesEffectAndReturnsSymbol result (λ s. Some s) self.old.setting.limit self.new
             changes (member_effect changes
@@ -313,7 +312,7 @@ impl<'a> ModuleBuilder<'a> {
         decl: SymbolDecl<'a>,
     ) -> Result<(), BuildFault>
         requires filled { HasValidTable self.old }
-        ensures keeps { KeepsTableValid result self.old self.new }
+        ensures keeps { LeavesValidTableWithNoFewerSymbols result self.old self.new }
         ensures table { (changes : List Change) → HasAppliedChanges self.old changes
             → AppliesEffectChanges result self.old.setting.limit self.new changes (expando_effect changes
             (symbol_of_ident_after_changes changes (id_view id.now)) (decl_view decl.entry)) }

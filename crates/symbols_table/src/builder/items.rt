@@ -3,19 +3,16 @@
 ghost use Rattle.std.specs.Prelude.{◌≡◌, ℕ, suc, ◌+◌, ◌<◌, ◌≤◌, ◌||◌, List, length, IfOk, Some};
 ghost use Rattle.std.specs.Option.{option_map, option_copied, option_and_then};
 ghost use Rattle.symbols_ast.specs.NodeRefs.{node_view, kind_of, child_in_field};
-ghost use Rattle.symbols_ast.specs.ChildFields.{id_of, body_node_of};
+ghost use Rattle.symbols_ast.specs.ChildFields.{id_child_of, body_child_of};
 ghost use Rattle.symbols_ast.specs.WellFormed.{IsWellFormedTree};
 ghost use Rattle.symbols_table.specs.inner.NamespaceViews.{namespace_view};
 ghost use Rattle.symbols_table.specs.EventsByHolderAndStart.{events_if_some, id_of_ident_child};
-ghost use Rattle.symbols_table.specs.inner.Levels.{AreGreaterNodeNumbers};
-ghost use Rattle.symbols_table.specs.inner.Levels.{ReturnsSymbolOfFirstEvent};
+ghost use Rattle.symbols_table.specs.inner.Levels.{AreGreaterNodeNumbers, AppliesEventsAndReturnsSymbolOfFirst};
 ghost use Rattle.symbols_table.specs.Events.{EventEffect, symbol_of_event_at, changes_of_effects};
 ghost use Rattle.symbols_table.specs.TreeEvents.{as_namespace, namespace_of, is_ambient_namespace};
-ghost use Rattle.symbols_table.specs.TreeEvents.{namespace_part_decl_events};
-ghost use Rattle.symbols_table.specs.TreeEvents.{namespace_body_events_within};
-ghost use Rattle.symbols_table.specs.TreeEvents.{namespace_body_events, namespace_events};
-ghost use Rattle.symbols_table.specs.TreeEvents.{non_namespace_item_events, item_events_within};
-ghost use Rattle.symbols_table.specs.TreeEvents.{item_list_events_within};
+ghost use Rattle.symbols_table.specs.TreeEvents.{namespace_part_decl_events, namespace_body_events_within_levels};
+ghost use Rattle.symbols_table.specs.TreeEvents.{namespace_body_events, namespace_events, non_namespace_item_events};
+ghost use Rattle.symbols_table.specs.TreeEvents.{item_events_within_levels, item_list_events_within_levels};
 
 use crate::builder::declarations::{declared_as, export_or_decl_range, is_exported};
 use crate::builder::scope::Scope;
@@ -78,7 +75,7 @@ fn inner_ambient(scope: Scope, kind: &Kind) -> bool
 /// Returns the identifier of a namespace, or of a later part of a dotted one. It is `None` if the
 /// name is a string, as in `declare module "m"`.
 fn namespace_id<'a>(node: NodeRef<'a>) -> Option<&'a Id>
-    ensures { option_copied result ≡ id_of_ident_child id_of (node_view node.entry) }
+    ensures { option_copied result ≡ id_of_ident_child id_child_of (node_view node.entry) }
 {
     node.id()?.sym()
 }
@@ -86,7 +83,7 @@ fn namespace_id<'a>(node: NodeRef<'a>) -> Option<&'a Id>
 impl<'a> ModuleBuilder<'a> {
     ghost use Rattle.symbols_table.specs.inner.Tables.{HasAppliedChanges, HasValidTable};
     ghost use Rattle.symbols_table.specs.inner.Tables.{AppliesEventsUnderHolder};
-    ghost use Rattle.symbols_table.specs.inner.ModuleBuilderSteps.{KeepsTableValid};
+    ghost use Rattle.symbols_table.specs.inner.ModuleBuilderSteps.{LeavesValidTableWithNoFewerSymbols};
 
     /// Declares a later part of a namespace's dotted name.
     fn declare_part(
@@ -99,10 +96,11 @@ impl<'a> ModuleBuilder<'a> {
         requires filled { HasValidTable self.old }
         requires holder { holder.0 < length self.old.symbols.items }
         ensures inside { IfOk result (λ s. s.0 < length self.new.symbols.items) }
-        ensures keeps { KeepsTableValid result self.old self.new }
+        ensures keeps { LeavesValidTableWithNoFewerSymbols result self.old self.new }
         ensures table { (rows : List EventEffect) (h : ℕ) → HasAppliedChanges self.old (changes_of_effects rows)
             → symbol_of_event_at rows h ≡ Some holder
-            → ReturnsSymbolOfFirstEvent result self.old.setting.limit self.new rows (namespace_part_decl_events
+            → AppliesEventsAndReturnsSymbolOfFirst result self.old.setting.limit self.new rows
+            (namespace_part_decl_events
             (node_view whole.entry) (node_view node.entry) id.now h (length rows)) }
     {
         let decl = SymbolDecl::definition(SymbolNodeRef::TsNamespace(whole), node.range());
@@ -126,11 +124,11 @@ impl<'a> ModuleBuilder<'a> {
         requires inside { n < length whole.tree.now.nodes.items }
         requires filled { HasValidTable self.old }
         requires holder { holder.0 < length self.old.symbols.items }
-        ensures keeps { KeepsTableValid result self.old self.new }
+        ensures keeps { LeavesValidTableWithNoFewerSymbols result self.old self.new }
         ensures table { (levels parts : ℕ) → length whole.entry.tree.now.nodes.items
             ≤ n + suc levels → length whole.entry.tree.now.nodes.items ≤ n + parts
             → AppliesEventsUnderHolder result self.old self.new
-            (namespace_body_events_within (item_list_events_within whole.entry.tree.now
+            (namespace_body_events_within_levels (item_list_events_within_levels whole.entry.tree.now
             levels) (node_view whole.entry) ambient parts n) holder }
     {
         let Some(node) = whole.node(n) else {
@@ -166,12 +164,12 @@ impl<'a> ModuleBuilder<'a> {
         requires well_formed { IsWellFormedTree whole.tree.now.nodes.items }
         requires filled { HasValidTable self.old }
         requires holder { holder.0 < length self.old.symbols.items }
-        ensures keeps { KeepsTableValid result self.old self.new }
+        ensures keeps { LeavesValidTableWithNoFewerSymbols result self.old self.new }
         ensures table { (levels : ℕ)
             → length whole.entry.tree.now.nodes.items ≤ whole.entry.number + suc levels
             → AppliesEventsUnderHolder result self.old self.new (events_if_some
-            (child_in_field (node_view whole.entry) body_node_of)
-            (namespace_body_events (item_list_events_within whole.entry.tree.now levels)
+            (child_in_field (node_view whole.entry) body_child_of)
+            (namespace_body_events (item_list_events_within_levels whole.entry.tree.now levels)
             (node_view whole.entry) ambient))
             holder }
     {
@@ -192,12 +190,12 @@ impl<'a> ModuleBuilder<'a> {
         requires well_formed { IsWellFormedTree namespace.decl.tree.now.nodes.items }
         requires filled { HasValidTable self.old }
         requires holder { holder.0 < length self.old.symbols.items }
-        ensures keeps { KeepsTableValid result self.old self.new }
+        ensures keeps { LeavesValidTableWithNoFewerSymbols result self.old self.new }
         ensures table { (levels : ℕ) → length namespace.entry.decl.tree.now.nodes.items
             ≤ namespace.entry.decl.number + suc levels
             → AppliesEventsUnderHolder result self.old self.new (events_if_some
             (kind_of (node_view namespace.entry.decl))
-            (namespace_events (item_list_events_within namespace.entry.decl.tree.now levels) scope
+            (namespace_events (item_list_events_within_levels namespace.entry.decl.tree.now levels) scope
             (namespace_view namespace.entry))) holder }
     {
         let Namespace { exported, decl } = namespace;
@@ -227,7 +225,7 @@ impl<'a> ModuleBuilder<'a> {
         requires well_formed { IsWellFormedTree node.tree.now.nodes.items }
         requires filled { HasValidTable self.old }
         requires holder { holder.0 < length self.old.symbols.items }
-        ensures keeps { KeepsTableValid result self.old self.new }
+        ensures keeps { LeavesValidTableWithNoFewerSymbols result self.old self.new }
         ensures table { AppliesEventsUnderHolder result self.old self.new
             (events_if_some (kind_of (node_view node.entry))
             (non_namespace_item_events scope (node_view node.entry))) holder }
@@ -255,9 +253,10 @@ impl<'a> ModuleBuilder<'a> {
         requires inside { n < length parent.tree.now.nodes.items }
         requires filled { HasValidTable self.old }
         requires holder { holder.0 < length self.old.symbols.items }
-        ensures keeps { KeepsTableValid result self.old self.new }
+        ensures keeps { LeavesValidTableWithNoFewerSymbols result self.old self.new }
         ensures table { (levels : ℕ) → length parent.entry.tree.now.nodes.items ≤ n + levels
-            → AppliesEventsUnderHolder result self.old self.new (item_events_within parent.entry.tree.now levels scope
+            → AppliesEventsUnderHolder result self.old self.new
+            (item_events_within_levels parent.entry.tree.now levels scope
             n) holder }
     {
         let Some(node) = parent.node(n) else {
@@ -282,11 +281,11 @@ impl<'a> ModuleBuilder<'a> {
         requires greater { AreGreaterNodeNumbers parent.tree.now.nodes.items parent.number items.now }
         requires filled { HasValidTable self.old }
         requires holder { holder.0 < length self.old.symbols.items }
-        ensures keeps { KeepsTableValid result self.old self.new }
+        ensures keeps { LeavesValidTableWithNoFewerSymbols result self.old self.new }
         ensures table { (levels : ℕ)
             → length parent.entry.tree.now.nodes.items ≤ parent.entry.number + suc levels
             → AppliesEventsUnderHolder result self.old self.new
-            (item_list_events_within parent.entry.tree.now levels scope
+            (item_list_events_within_levels parent.entry.tree.now levels scope
             items.now) holder }
     {
         for n in items {

@@ -6,10 +6,9 @@ ghost use Rattle.symbols_ast.specs.NodeRefs.{node_view, kind_of};
 ghost use Rattle.symbols_nodes.specs.NodeViews.{symbol_node_view};
 ghost use Rattle.symbols_table.specs.inner.MemberViews.{member_view};
 ghost use Rattle.symbols_table.specs.EventsByHolderAndStart.{events_of_each};
-ghost use Rattle.symbols_table.specs.MemberEvents.{member_nodes, member_event};
-ghost use Rattle.symbols_table.specs.MemberEvents.{constructor_param_events_at};
-ghost use Rattle.symbols_table.specs.MemberEvents.{constructor_events, node_of_non_constructor_member};
-ghost use Rattle.symbols_table.specs.MemberEvents.{member_events_at};
+ghost use Rattle.symbols_table.specs.MemberEvents.{class_or_interface_member_numbers, member_event};
+ghost use Rattle.symbols_table.specs.MemberEvents.{constructor_param_events_at, constructor_events};
+ghost use Rattle.symbols_table.specs.MemberEvents.{node_of_non_constructor_member, member_events_at};
 
 use crate::builder::table::{BuildFault, ModuleBuilder};
 use crate::decl::SymbolDecl;
@@ -19,7 +18,7 @@ use symbols_nodes::nodes::SymbolNodeRef;
 
 /// Returns the member nodes of a class or interface; empty for any other node.
 pub(crate) fn member_nodes<'a>(node: NodeRef<'a>) -> &'a [NodeId]
-    ensures { result.now ≡ member_nodes (node_view node.entry) }
+    ensures { result.now ≡ class_or_interface_member_numbers (node_view node.entry) }
 {
     match node.kind() {
         Kind::Decl(Decl::TsInterfaceDecl { .. }) => node.body(),
@@ -84,7 +83,7 @@ fn node_of_non_constructor_member<'a>(node: NodeRef<'a>) -> Option<SimpleMember<
 
 impl<'a> ModuleBuilder<'a> {
     ghost use Rattle.symbols_table.specs.inner.Tables.{HasValidTable, AppliesEventsUnderHolder};
-    ghost use Rattle.symbols_table.specs.inner.ModuleBuilderSteps.{KeepsTableValid};
+    ghost use Rattle.symbols_table.specs.inner.ModuleBuilderSteps.{LeavesValidTableWithNoFewerSymbols};
 
     /// Declares a member at the range of its node.
     fn define_member(
@@ -97,7 +96,7 @@ impl<'a> ModuleBuilder<'a> {
         requires filled { HasValidTable self.old }
         requires holder { holder.0 < length self.old.symbols.items }
         requires inner { 0 < holder.0 }
-        ensures keeps { KeepsTableValid result self.old self.new }
+        ensures keeps { LeavesValidTableWithNoFewerSymbols result self.old self.new }
         ensures table { AppliesEventsUnderHolder result self.old self.new
             (member_event (symbol_node_view form.entry) (node_view node.entry) is_static) holder }
     {
@@ -116,7 +115,7 @@ impl<'a> ModuleBuilder<'a> {
         requires filled { HasValidTable self.old }
         requires holder { holder.0 < length self.old.symbols.items }
         requires inner { 0 < holder.0 }
-        ensures keeps { KeepsTableValid result self.old self.new }
+        ensures keeps { LeavesValidTableWithNoFewerSymbols result self.old self.new }
         ensures table { AppliesEventsUnderHolder result self.old self.new
             (constructor_param_events_at constructor.entry.tree.now n)
             holder }
@@ -142,7 +141,7 @@ impl<'a> ModuleBuilder<'a> {
         requires filled { HasValidTable self.old }
         requires holder { holder.0 < length self.old.symbols.items }
         requires inner { 0 < holder.0 }
-        ensures keeps { KeepsTableValid result self.old self.new }
+        ensures keeps { LeavesValidTableWithNoFewerSymbols result self.old self.new }
         ensures table { AppliesEventsUnderHolder result self.old self.new
             (events_of_each (constructor_param_events_at node.entry.tree.now) params.now) holder }
     {
@@ -162,7 +161,7 @@ impl<'a> ModuleBuilder<'a> {
         requires filled { HasValidTable self.old }
         requires holder { holder.0 < length self.old.symbols.items }
         requires inner { 0 < holder.0 }
-        ensures keeps { KeepsTableValid result self.old self.new }
+        ensures keeps { LeavesValidTableWithNoFewerSymbols result self.old self.new }
         ensures table { AppliesEventsUnderHolder result self.old self.new
             (constructor_events (node_view node.entry) params.now) holder }
     {
@@ -181,7 +180,7 @@ impl<'a> ModuleBuilder<'a> {
         requires filled { HasValidTable self.old }
         requires holder { holder.0 < length self.old.symbols.items }
         requires inner { 0 < holder.0 }
-        ensures keeps { KeepsTableValid result self.old self.new }
+        ensures keeps { LeavesValidTableWithNoFewerSymbols result self.old self.new }
         ensures table { AppliesEventsUnderHolder result self.old self.new (member_events_at parent.entry.tree.now n)
             holder }
     {
@@ -207,7 +206,7 @@ impl<'a> ModuleBuilder<'a> {
         requires filled { HasValidTable self.old }
         requires holder { holder.0 < length self.old.symbols.items }
         requires inner { 0 < holder.0 }
-        ensures keeps { KeepsTableValid result self.old self.new }
+        ensures keeps { LeavesValidTableWithNoFewerSymbols result self.old self.new }
         ensures table { AppliesEventsUnderHolder result self.old self.new
             (events_of_each (member_events_at parent.entry.tree.now) members.now) holder }
     {

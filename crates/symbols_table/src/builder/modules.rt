@@ -14,13 +14,10 @@ ghost use Rattle.symbols_table.specs.DeclarationEvents.{declared_name};
 ghost use Rattle.symbols_table.specs.declared.builder.table.BuildFault.TheVariants.{OutOfMemory};
 ghost use Rattle.symbols_table.specs.ModuleEvents.{import_dep_name, import_specifier_events_at};
 ghost use Rattle.symbols_table.specs.ModuleEvents.{new_exported_symbol_events, orig_specifier_name};
-ghost use Rattle.symbols_table.specs.ModuleEvents.{orig_specifier_decl_kind};
-ghost use Rattle.symbols_table.specs.ModuleEvents.{export_named_specifier_events_at};
-ghost use Rattle.symbols_table.specs.ModuleEvents.{export_specifier_events_at, bind_events_if};
-ghost use Rattle.symbols_table.specs.ModuleEvents.{default_decl_events};
+ghost use Rattle.symbols_table.specs.ModuleEvents.{orig_specifier_decl_kind, export_named_specifier_events_at};
+ghost use Rattle.symbols_table.specs.ModuleEvents.{export_specifier_events_at, bind_events_if, default_decl_events};
 ghost use Rattle.symbols_table.specs.ModuleEvents.{default_export_events, default_expr_decl};
-ghost use Rattle.symbols_table.specs.ModuleEvents.{export_assignment_events};
-ghost use Rattle.symbols_table.specs.ModuleEvents.{import_equals_decl_kind};
+ghost use Rattle.symbols_table.specs.ModuleEvents.{export_assignment_of_ident_events, import_equals_decl_kind};
 ghost use Rattle.symbols_table.specs.ModuleEvents.{import_equals_events, expando_events};
 ghost use Rattle.symbols_table.specs.ModuleEvents.{import_export_or_expando_events};
 
@@ -130,7 +127,7 @@ fn import_equals_decl_kind<'a>(
 impl<'a> ModuleBuilder<'a> {
     ghost use Rattle.symbols_table.specs.inner.Tables.{HasAppliedChanges, HasValidTable};
     ghost use Rattle.symbols_table.specs.inner.Tables.{AppliesEventsUnderHolder};
-    ghost use Rattle.symbols_table.specs.inner.ModuleBuilderSteps.{KeepsTableValid};
+    ghost use Rattle.symbols_table.specs.inner.ModuleBuilderSteps.{LeavesValidTableWithNoFewerSymbols};
 
     /// Visits an import specifier.
     fn walk_import_specifier(
@@ -142,7 +139,7 @@ impl<'a> ModuleBuilder<'a> {
     ) -> Result<(), BuildFault>
         requires filled { HasValidTable self.old }
         requires holder { holder.0 < length self.old.symbols.items }
-        ensures keeps { KeepsTableValid result self.old self.new }
+        ensures keeps { LeavesValidTableWithNoFewerSymbols result self.old self.new }
         ensures table { AppliesEventsUnderHolder result self.old self.new
             (import_specifier_events_at src.now import.entry.tree.now n) holder }
     {
@@ -176,7 +173,7 @@ impl<'a> ModuleBuilder<'a> {
     ) -> Result<(), BuildFault>
         requires filled { HasValidTable self.old }
         requires holder { holder.0 < length self.old.symbols.items }
-        ensures keeps { KeepsTableValid result self.old self.new }
+        ensures keeps { LeavesValidTableWithNoFewerSymbols result self.old self.new }
         ensures table { AppliesEventsUnderHolder result self.old self.new
             (events_of_each (import_specifier_events_at src.now node.entry.tree.now) specifiers.now) holder }
     {
@@ -195,7 +192,7 @@ impl<'a> ModuleBuilder<'a> {
     ) -> Result<(), BuildFault>
         requires filled { HasValidTable self.old }
         requires holder { holder.0 < length self.old.symbols.items }
-        ensures keeps { KeepsTableValid result self.old self.new }
+        ensures keeps { LeavesValidTableWithNoFewerSymbols result self.old self.new }
         ensures table { AppliesEventsUnderHolder result self.old self.new
             (new_exported_symbol_events name.now (decl_view decl.entry)) holder }
     {
@@ -214,7 +211,7 @@ impl<'a> ModuleBuilder<'a> {
     ) -> Result<(), BuildFault>
         requires filled { HasValidTable self.old }
         requires holder { holder.0 < length self.old.symbols.items }
-        ensures keeps { KeepsTableValid result self.old self.new }
+        ensures keeps { LeavesValidTableWithNoFewerSymbols result self.old self.new }
         ensures table { AppliesEventsUnderHolder result self.old self.new
             (export_named_specifier_events_at (option_copied src.entry) (node_view node.entry)
             (option_map string_bytes exported.now)) holder }
@@ -245,7 +242,7 @@ impl<'a> ModuleBuilder<'a> {
     ) -> Result<(), BuildFault>
         requires filled { HasValidTable self.old }
         requires holder { holder.0 < length self.old.symbols.items }
-        ensures keeps { KeepsTableValid result self.old self.new }
+        ensures keeps { LeavesValidTableWithNoFewerSymbols result self.old self.new }
         ensures table { AppliesEventsUnderHolder result self.old self.new
             (export_specifier_events_at (option_copied src.entry) export.entry.tree.now n) holder }
     {
@@ -277,7 +274,7 @@ impl<'a> ModuleBuilder<'a> {
     ) -> Result<(), BuildFault>
         requires filled { HasValidTable self.old }
         requires holder { holder.0 < length self.old.symbols.items }
-        ensures keeps { KeepsTableValid result self.old self.new }
+        ensures keeps { LeavesValidTableWithNoFewerSymbols result self.old self.new }
         ensures table { AppliesEventsUnderHolder result self.old self.new (events_of_each
             (export_specifier_events_at (option_copied src.entry) node.entry.tree.now) specifiers.now) holder }
     {
@@ -292,7 +289,7 @@ impl<'a> ModuleBuilder<'a> {
         requires filled { HasValidTable self.old }
         requires symbol { symbol.0 < length self.old.symbols.items }
         requires inner { 0 < symbol.0 }
-        ensures keeps { KeepsTableValid result self.old self.new }
+        ensures keeps { LeavesValidTableWithNoFewerSymbols result self.old self.new }
         ensures table { OnOk result ((rows : List EventEffect) (s : ℕ)
             → HasAppliedChanges self.old (changes_of_effects rows) → symbol_of_event_at rows s ≡ Some symbol
             → HasAppliedChanges self.new (changes_of_effects
@@ -315,7 +312,7 @@ impl<'a> ModuleBuilder<'a> {
     ) -> Result<(), BuildFault>
         requires filled { HasValidTable self.old }
         requires holder { holder.0 < length self.old.symbols.items }
-        ensures keeps { KeepsTableValid result self.old self.new }
+        ensures keeps { LeavesValidTableWithNoFewerSymbols result self.old self.new }
         ensures table { AppliesEventsUnderHolder result self.old self.new
             (default_decl_events (node_view node.entry) (node_view decl.entry)) holder }
     {
@@ -332,7 +329,7 @@ impl<'a> ModuleBuilder<'a> {
     fn walk_default(&mut self, holder: SymbolId, decl: SymbolDecl<'a>) -> Result<(), BuildFault>
         requires filled { HasValidTable self.old }
         requires holder { holder.0 < length self.old.symbols.items }
-        ensures keeps { KeepsTableValid result self.old self.new }
+        ensures keeps { LeavesValidTableWithNoFewerSymbols result self.old self.new }
         ensures table { AppliesEventsUnderHolder result self.old self.new (default_export_events (decl_view decl.entry))
             holder }
     {
@@ -348,10 +345,10 @@ impl<'a> ModuleBuilder<'a> {
     ) -> Result<(), BuildFault>
         requires filled { HasValidTable self.old }
         requires holder { holder.0 < length self.old.symbols.items }
-        ensures keeps { KeepsTableValid result self.old self.new }
+        ensures keeps { LeavesValidTableWithNoFewerSymbols result self.old self.new }
         ensures table { AppliesEventsUnderHolder result self.old self.new
             (events_if_some (kind_of (node_view expr.entry))
-            (export_assignment_events (node_view expr.entry))) holder }
+            (export_assignment_of_ident_events (node_view expr.entry))) holder }
     {
         match expr.kind() {
             Kind::Expr(Expr::Ident { sym }) => {
@@ -374,7 +371,7 @@ impl<'a> ModuleBuilder<'a> {
         requires well_formed { IsWellFormedTree node.tree.now.nodes.items }
         requires filled { HasValidTable self.old }
         requires holder { holder.0 < length self.old.symbols.items }
-        ensures keeps { KeepsTableValid result self.old self.new }
+        ensures keeps { LeavesValidTableWithNoFewerSymbols result self.old self.new }
         ensures table { AppliesEventsUnderHolder result self.old self.new
             (import_equals_events (node_view node.entry) is_export entity external.now) holder }
     {
@@ -396,7 +393,7 @@ impl<'a> ModuleBuilder<'a> {
     fn walk_expression(&mut self, holder: SymbolId, expr: NodeRef<'a>) -> Result<(), BuildFault>
         requires filled { HasValidTable self.old }
         requires holder { holder.0 < length self.old.symbols.items }
-        ensures keeps { KeepsTableValid result self.old self.new }
+        ensures keeps { LeavesValidTableWithNoFewerSymbols result self.old self.new }
         ensures table { AppliesEventsUnderHolder result self.old self.new (expando_events (node_view expr.entry))
             holder }
     {
@@ -419,7 +416,7 @@ impl<'a> ModuleBuilder<'a> {
         requires well_formed { IsWellFormedTree node.tree.now.nodes.items }
         requires filled { HasValidTable self.old }
         requires holder { holder.0 < length self.old.symbols.items }
-        ensures keeps { KeepsTableValid result self.old self.new }
+        ensures keeps { LeavesValidTableWithNoFewerSymbols result self.old self.new }
         ensures table { AppliesEventsUnderHolder result self.old self.new (events_if_some
             (kind_of (node_view node.entry)) (import_export_or_expando_events (node_view node.entry))) holder }
     {

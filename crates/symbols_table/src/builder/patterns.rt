@@ -2,8 +2,7 @@
 
 ghost use Rattle.std.specs.Prelude.{◌≡◌, ◌≤◌, ◌+◌, ◌++◌, ◌∷◌, [], ℕ, length, IfOk, IfSome, OnOk};
 ghost use Rattle.symbols_ast.specs.WellFormed.{IsWellFormedTree};
-ghost use Rattle.symbols_table.specs.Patterns.{pattern_parts, pattern_bindings_within};
-ghost use Rattle.symbols_table.specs.Patterns.{pattern_bindings};
+ghost use Rattle.symbols_table.specs.Patterns.{pattern_parts, pattern_bindings_within_levels, pattern_bindings};
 ghost use Rattle.symbols_table.specs.inner.Patterns.{is_identifier_pattern};
 
 use std::alloc::{AllocError, Global};
@@ -38,7 +37,7 @@ fn add_leaves(node: NodeRef<'_>, leaves: &mut Vec<NodeId>) -> Result<(), AllocEr
     ensures { OnOk result ((levels : ℕ)
         → length node.entry.tree.now.nodes.items ≤ node.entry.number + levels
         → leaves.new.items
-        ≡ leaves.old.items ++ pattern_bindings_within node.entry.tree.now levels node.entry.number) }
+        ≡ leaves.old.items ++ pattern_bindings_within_levels node.entry.tree.now levels node.entry.number) }
 {
     let kind = node.kind();
     if is_identifier_pattern(kind) {

@@ -101,7 +101,7 @@ fn add_name<'a>(
 
 impl<'a> ModuleBuilder<'a> {
     ghost use Rattle.symbols_table.specs.inner.Tables.{HasAppliedChanges, HasValidTable};
-    ghost use Rattle.symbols_table.specs.inner.ModuleBuilderSteps.{KeepsSymbolCount};
+    ghost use Rattle.symbols_table.specs.inner.ModuleBuilderSteps.{LeavesSymbolCountUnchanged};
 
     /// Adds a symbol with the next number and its first declaration. It fails if the limit is
     /// reached.
@@ -150,7 +150,7 @@ impl<'a> ModuleBuilder<'a> {
         requires holder { holder.0 < length self.old.symbols.items }
         requires symbol { symbol.0 < length self.old.symbols.items }
         requires inner { 0 < symbol.0 }
-        ensures keeps { KeepsSymbolCount result self.old self.new }
+        ensures keeps { LeavesSymbolCountUnchanged result self.old self.new }
         ensures table { OnOk result ((changes : List Change) → HasAppliedChanges self.old changes
             → HasAppliedChanges self.new (changes ++ exports holder name.now symbol ∷ [])) }
         ensures full { IfErr result (λ fault. fault ≡ OutOfMemory) }
@@ -170,7 +170,7 @@ impl<'a> ModuleBuilder<'a> {
         decl: SymbolDecl<'a>,
     ) -> Result<(), BuildFault>
         requires { symbol.0 < length self.old.symbols.items }
-        ensures keeps { KeepsSymbolCount result self.old self.new }
+        ensures keeps { LeavesSymbolCountUnchanged result self.old self.new }
         ensures table { OnOk result ((changes : List Change) → HasAppliedChanges self.old changes
             → HasAppliedChanges self.new (changes ++ adds_decl symbol (decl_view decl.entry) ∷ [])) }
         ensures full { IfErr result (λ fault. fault ≡ OutOfMemory) }
@@ -219,7 +219,7 @@ impl<'a> ModuleBuilder<'a> {
     pub(crate) fn add_child(&mut self, holder: SymbolId, symbol: SymbolId) -> Result<(), BuildFault>
         requires holder { holder.0 < length self.old.symbols.items }
         requires symbol { symbol.0 < length self.old.symbols.items }
-        ensures keeps { KeepsSymbolCount result self.old self.new }
+        ensures keeps { LeavesSymbolCountUnchanged result self.old self.new }
         ensures table { OnOk result ((changes : List Change) → HasAppliedChanges self.old changes
             → HasAppliedChanges self.new (changes ++ adds_child holder symbol ∷ [])) }
         ensures full { IfErr result (λ fault. fault ≡ OutOfMemory) }
@@ -240,7 +240,7 @@ impl<'a> ModuleBuilder<'a> {
     ) -> Result<(), BuildFault>
         requires holder { holder.0 < length self.old.symbols.items }
         requires symbol { symbol.0 < length self.old.symbols.items }
-        ensures keeps { KeepsSymbolCount result self.old self.new }
+        ensures keeps { LeavesSymbolCountUnchanged result self.old self.new }
         ensures table { OnOk result ((changes : List Change) → HasAppliedChanges self.old changes
             → HasAppliedChanges self.new (changes ++ adds_member holder symbol ∷ [])) }
         ensures full { IfErr result (λ fault. fault ≡ OutOfMemory) }
@@ -255,7 +255,7 @@ impl<'a> ModuleBuilder<'a> {
 
     /// Adds an `export *` statement.
     pub(crate) fn add_star(&mut self, node_id: NodeId, src: &'a str) -> Result<(), BuildFault>
-        ensures keeps { KeepsSymbolCount result self.old self.new }
+        ensures keeps { LeavesSymbolCountUnchanged result self.old self.new }
         ensures table { OnOk result ((changes : List Change) → HasAppliedChanges self.old changes
             → HasAppliedChanges self.new
             (changes ++ re_exports_all (record { number = node_id; specifier_text = src.now })
@@ -272,7 +272,7 @@ impl<'a> ModuleBuilder<'a> {
     pub(crate) fn map_id(&mut self, id: &'a Id, symbol: SymbolId) -> Result<(), BuildFault>
         requires symbol { symbol.0 < length self.old.symbols.items }
         requires inner { 0 < symbol.0 }
-        ensures keeps { KeepsSymbolCount result self.old self.new }
+        ensures keeps { LeavesSymbolCountUnchanged result self.old self.new }
         ensures table { OnOk result ((changes : List Change) → HasAppliedChanges self.old changes
             → HasAppliedChanges self.new (changes ++ maps (id_view id.now) symbol ∷ [])) }
         ensures full { IfErr result (λ fault. fault ≡ OutOfMemory) }

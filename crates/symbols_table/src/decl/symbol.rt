@@ -6,8 +6,8 @@ ghost use Rattle.std.specs.Option.{option_copied, option_map};
 ghost use Rattle.std.specs.Map.{lookup};
 ghost use Rattle.std.specs.List.{list_any};
 ghost use Rattle.std.specs.Str.{bytes_eq};
-ghost use Rattle.symbols_nodes.specs.NodeTests.{is_function, is_module};
-ghost use Rattle.symbols_nodes.specs.NodeMembers.{is_decl, is_member_node, is_private_member};
+ghost use Rattle.symbols_nodes.specs.NodeTests.{is_function_exported_or_not, is_module};
+ghost use Rattle.symbols_nodes.specs.NodeMembers.{is_decl, is_member_or_expando_node, is_private_member};
 ghost use Rattle.symbols_nodes.specs.NodeViews.{symbol_node_view};
 ghost use Rattle.symbols_table.specs.DeclViews.{decl_view, file_dep_view, first_file_dep};
 ghost use Rattle.symbols_table.specs.DeclViews.{decl_node_satisfies};
@@ -34,7 +34,7 @@ pub struct Symbol<'a> {
     pub(crate) tables: Tables,
     pub(crate) has_function_decl: bool,
     ghost functions: { has_function_decl
-        ≡ list_any (decl_node_satisfies is_function) (map decl_view decls.items) },
+        ≡ list_any (decl_node_satisfies is_function_exported_or_not) (map decl_view decls.items) },
 }
 
 /// Returns the other module's name of the first declaration that refers to one, if any.
@@ -216,7 +216,7 @@ impl<'a> Symbol<'a> {
     /// Returns whether the symbol's first declaration is a member (as deno_graph); false without a
     /// node.
     pub fn is_member(&self) -> bool
-        ensures { result ≡ first_decl_node_satisfies is_member_node (symbol_view self.now) }
+        ensures { result ≡ first_decl_node_satisfies is_member_or_expando_node (symbol_view self.now) }
     {
         match self.node_of_first_decl() {
             Some(node) => node.is_member(),

@@ -4,14 +4,14 @@ ghost use Rattle.std.specs.Prelude.{◌≡◌, map, IfOk, None};
 ghost use Rattle.std.specs.Cow.{cow_str_bytes};
 ghost use Rattle.std.specs.Option.{option_copied, option_map};
 ghost use Rattle.symbols_nodes.specs.NodeViews.{symbol_node_view};
-ghost use Rattle.symbols_nodes.specs.NodeTests.{is_class, is_function, is_interface};
-ghost use Rattle.symbols_nodes.specs.NodeTests.{is_var, is_ctor, has_body, is_method};
-ghost use Rattle.symbols_table.specs.DeclViews.{decl_view, decl_kind_view, decl_name};
-ghost use Rattle.symbols_table.specs.DeclViews.{declaration_of_kind, definition_of_node};
-ghost use Rattle.symbols_table.specs.DeclViews.{definition, value_type_namespaces_of_decl};
-ghost use Rattle.symbols_table.specs.DeclViews.{file_dep_view, is_definition, decl_kind_node};
-ghost use Rattle.symbols_table.specs.DeclViews.{decl_kind_tree, decl_kind_dep, decl_node_satisfies};
-ghost use Rattle.symbols_table.specs.DeclViews.{last_decl, is_overload_after_decl};
+ghost use Rattle.symbols_nodes.specs.NodeTests.{is_class_exported_or_not, is_function_exported_or_not};
+ghost use Rattle.symbols_nodes.specs.NodeTests.{is_interface_exported_or_not, is_var_exported_or_not, is_ctor};
+ghost use Rattle.symbols_nodes.specs.NodeTests.{has_body, is_method};
+ghost use Rattle.symbols_table.specs.DeclViews.{decl_view, decl_kind_view, decl_name, declaration_of_kind};
+ghost use Rattle.symbols_table.specs.DeclViews.{definition_of_node, definition, value_type_namespaces_of_decl};
+ghost use Rattle.symbols_table.specs.DeclViews.{file_dep_view, is_definition, decl_kind_node, decl_kind_tree};
+ghost use Rattle.symbols_table.specs.DeclViews.{decl_kind_dep, decl_node_satisfies, last_decl};
+ghost use Rattle.symbols_table.specs.DeclViews.{gets_overload_flag_after_decl};
 
 use crate::decl::dep::FileDep;
 use std::alloc::{AllocError, Global};
@@ -187,7 +187,7 @@ impl<'a> SymbolDecl<'a> {
 
     /// Returns whether the declaration is a class (as deno_graph); false without a node.
     pub fn is_class(&self) -> bool
-        ensures { result ≡ decl_node_satisfies is_class (decl_view self.now) }
+        ensures { result ≡ decl_node_satisfies is_class_exported_or_not (decl_view self.now) }
     {
         match self.maybe_node() {
             Some(node) => node.is_class(),
@@ -198,7 +198,7 @@ impl<'a> SymbolDecl<'a> {
     /// Returns whether the declaration is a variable (as deno_graph). It is false for a variable of
     /// `using`, and without a node.
     pub fn is_var(&self) -> bool
-        ensures { result ≡ decl_node_satisfies is_var (decl_view self.now) }
+        ensures { result ≡ decl_node_satisfies is_var_exported_or_not (decl_view self.now) }
     {
         match self.maybe_node() {
             Some(node) => node.is_var(),
@@ -218,7 +218,7 @@ impl<'a> SymbolDecl<'a> {
 
     /// Returns whether the declaration is an interface (as deno_graph); false without a node.
     pub fn is_interface(&self) -> bool
-        ensures { result ≡ decl_node_satisfies is_interface (decl_view self.now) }
+        ensures { result ≡ decl_node_satisfies is_interface_exported_or_not (decl_view self.now) }
     {
         match self.maybe_node() {
             Some(node) => node.is_interface(),
@@ -228,7 +228,7 @@ impl<'a> SymbolDecl<'a> {
 
     /// Returns whether the declaration is a function (as deno_graph); false without a node.
     pub fn is_function(&self) -> bool
-        ensures { result ≡ decl_node_satisfies is_function (decl_view self.now) }
+        ensures { result ≡ decl_node_satisfies is_function_exported_or_not (decl_view self.now) }
     {
         match self.maybe_node() {
             Some(node) => node.is_function(),
@@ -270,7 +270,7 @@ impl<'a> SymbolDecl<'a> {
     /// symbol.
     pub(crate) fn is_overload_after_decl(&self, before: &[SymbolDecl<'a>]) -> bool
         ensures { result
-            ≡ is_overload_after_decl (last_decl (map decl_view before.now)) (decl_view self.now) }
+            ≡ gets_overload_flag_after_decl (last_decl (map decl_view before.now)) (decl_view self.now) }
     {
         match before.last() {
             None => false,

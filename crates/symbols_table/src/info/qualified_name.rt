@@ -5,15 +5,14 @@ ghost use Rattle.std.specs.Prelude.{string_bytes, encode_utf8_all, IfOk, OnOk, I
 ghost use Rattle.std.specs.Cow.{cow_str_bytes};
 ghost use Rattle.std.specs.Option.{option_map};
 ghost use Rattle.symbols_ast.specs.declared.ids.ModuleId.{ModuleId};
-ghost use Rattle.symbols_nodes.specs.NodeTests.{is_class};
+ghost use Rattle.symbols_nodes.specs.NodeTests.{is_class_exported_or_not};
 ghost use Rattle.symbols_table.specs.Laws.{AreLawfulSymbols};
 ghost use Rattle.symbols_table.specs.SymbolViews.{SymbolView, symbol_view, symbol_name};
 ghost use Rattle.symbols_table.specs.SymbolViews.{first_decl_node_satisfies, symbol_view_of_number};
 ghost use Rattle.symbols_table.specs.Modules.{symbol_table_of_ref, symbol_in_table};
-ghost use Rattle.symbols_table.specs.QualifiedNames.{escaped_char, escaped_text};
-ghost use Rattle.symbols_table.specs.QualifiedNames.{nested_name_suffix};
-ghost use Rattle.symbols_table.specs.QualifiedNames.{text_unless_empty, qualified_name};
-ghost use Rattle.symbols_table.specs.QualifiedNames.{IsQualifiedNameFault};
+ghost use Rattle.symbols_table.specs.QualifiedNames.{char_with_quote_escaped, text_with_quotes_escaped};
+ghost use Rattle.symbols_table.specs.QualifiedNames.{dot_prototype_or_bracket_suffix, text_unless_empty};
+ghost use Rattle.symbols_table.specs.QualifiedNames.{qualified_name, IsQualifiedNameFault};
 ghost use Rattle.symbols_table.specs.inner.NamePaths.{reversed_pieces_text, suffix_text};
 ghost use Rattle.symbols_table.specs.inner.NamePaths.{IsNameOfPathSuffixIfAny};
 
@@ -33,7 +32,7 @@ const LONGEST_SIGN: usize = 11;
 
 fn push_escaped(text: &mut String, c: char) -> Result<(), AllocError>
     ensures { OnOk result
-        (string_bytes text.new ≡ string_bytes text.old ++ encode_utf8_all (escaped_char c)) }
+        (string_bytes text.new ≡ string_bytes text.old ++ encode_utf8_all (char_with_quote_escaped c)) }
 {
     if c == '"' {
         text.push('\\')?;
@@ -43,7 +42,7 @@ fn push_escaped(text: &mut String, c: char) -> Result<(), AllocError>
 
 /// Appends a text with `\` before each `"`.
 fn push_all_escaped(made: &mut String, text: &str) -> Result<(), AllocError>
-    ensures { OnOk result (string_bytes made.new ≡ string_bytes made.old ++ escaped_text text.now) }
+    ensures { OnOk result (string_bytes made.new ≡ string_bytes made.old ++ text_with_quotes_escaped text.now) }
 {
     if !text.as_bytes().contains(&b'"') {
         made.push_str(text)?;
@@ -57,7 +56,7 @@ fn push_all_escaped(made: &mut String, text: &str) -> Result<(), AllocError>
 
 /// Returns whether the symbol's first declaration is a class.
 fn is_class(symbol: &Symbol<'_>) -> bool
-    ensures { result ≡ first_decl_node_satisfies is_class (symbol_view symbol.now) }
+    ensures { result ≡ first_decl_node_satisfies is_class_exported_or_not (symbol_view symbol.now) }
 {
     match symbol.node_of_first_decl() {
         Some(node) => node.is_class(),
@@ -109,7 +108,7 @@ fn with_piece<'a>(pieces: Vec<CowStr<'a>>, piece: CowStr<'a>) -> Result<Vec<CowS
 /// each `"`.
 fn take_all_escaped(made: &mut String, pieces: &mut Vec<CowStr<'_>>) -> Result<(), AllocError>
     ensures { OnOk result (string_bytes made.new
-        ≡ string_bytes made.old ++ escaped_text (reversed_pieces_text pieces.old.items)) }
+        ≡ string_bytes made.old ++ text_with_quotes_escaped (reversed_pieces_text pieces.old.items)) }
 {
     while let Some(piece) = pieces.pop() {
         push_all_escaped(made, piece.as_str())?;
@@ -120,7 +119,7 @@ fn take_all_escaped(made: &mut String, pieces: &mut Vec<CowStr<'_>>) -> Result<(
 /// Returns the text of the pieces in brackets and quotes, as one piece.
 fn in_brackets<'a>(alloc: Global, pieces: Vec<CowStr<'a>>) -> Result<Vec<CowStr<'a>>, AllocError>
     ensures { IfOk result (λ more. reversed_pieces_text more.items
-        ≡ codes "[\"" ++ (escaped_text (reversed_pieces_text pieces.entry.items) ++ codes "\"]")) }
+        ≡ codes "[\"" ++ (text_with_quotes_escaped (reversed_pieces_text pieces.entry.items) ++ codes "\"]")) }
 {
     let mut pieces = pieces;
     let mut made = String::with_capacity(alloc, room_for(&pieces).saturating_add(4))?;
@@ -140,7 +139,7 @@ fn suffix_pieces<'a>(
     inner: Vec<CowStr<'a>>,
 ) -> Result<Vec<CowStr<'a>>, AllocError>
     ensures { IfOk result (λ pieces. reversed_pieces_text pieces.items
-        ≡ nested_name_suffix (symbol_view symbol.now) number (reversed_pieces_text inner.entry.items)) }
+        ≡ dot_prototype_or_bracket_suffix (symbol_view symbol.now) number (reversed_pieces_text inner.entry.items)) }
 {
     if !symbol.tables.has_member(number) {
         return with_piece(inner, CowStr::Borrowed("."));
@@ -160,7 +159,7 @@ fn push_suffix(
     inner: &str,
 ) -> Result<(), AllocError>
     ensures { OnOk result (string_bytes text.new
-        ≡ string_bytes text.old ++ nested_name_suffix (symbol_view symbol.now) number inner.now) }
+        ≡ string_bytes text.old ++ dot_prototype_or_bracket_suffix (symbol_view symbol.now) number inner.now) }
 {
     if !symbol.tables.has_member(number) {
         text.push_str(".")?;
@@ -184,7 +183,7 @@ fn with_inner(
     inner: &str,
 ) -> Result<String, AllocError>
     ensures { IfOk result (λ text. string_bytes text
-        ≡ name.now ++ nested_name_suffix (symbol_view symbol.now) number inner.now) }
+        ≡ name.now ++ dot_prototype_or_bracket_suffix (symbol_view symbol.now) number inner.now) }
 {
     let room = name.len().saturating_add(inner.len());
     let mut text = String::with_capacity(alloc, room.saturating_add(LONGEST_SIGN))?;
@@ -204,7 +203,7 @@ fn name_with_outer<'a>(
     ensures number { IfOk result (λ named. named.number ≡ (symbol_view symbol.now).number) }
     ensures text { IfOk result (λ named. suffix_text named
         ≡ cow_str_bytes name.entry
-        ++ nested_name_suffix (symbol_view symbol.now) inner.entry.number (suffix_text inner.entry)) }
+        ++ dot_prototype_or_bracket_suffix (symbol_view symbol.now) inner.entry.number (suffix_text inner.entry)) }
 {
     let number = symbol.symbol_id;
     if inner.later.is_empty() && inner.first.as_str().len() <= COPIED {

@@ -9,7 +9,7 @@ use Rattle.serde_json.specs.Written.{outline, items_outline, members_outline}
 use Rattle.symbols_table.specs.DeclViews.{FileDepView}
 use Rattle.symbols_paths.specs.PathTrees.{DeclBySpecifier}
 use Rattle.symbols_answers.specs.Inputs.{FoundView, found_module, found_redirect, found_absent}
-use Rattle.symq_core.specs.PathData.{decl_json}
+use Rattle.symq_core.specs.PathData.{decl_symbol_and_index_json}
 
 -- the tokens of a value, in order
 abbrev pub tokens_of : Data → List Token
@@ -54,4 +54,4 @@ found_member_tokens found_absent = key (codes "found") ∷ string (codes "absent
 -- the tokens of a link up to the bracket of `next`
 abbrev pub link_tokens_up_to_next : List ℕ → DeclBySpecifier → List Token
 link_tokens_up_to_next specifier decl = begin_object ∷ key (codes "decl")
-    ∷ (tokens_of (decl_json decl) ++ key (codes "module") ∷ string specifier ∷ key (codes "next") ∷ begin_array ∷ [])
+    ∷ (tokens_of (decl_symbol_and_index_json decl) ++ key (codes "module") ∷ string specifier ∷ key (codes "next") ∷ begin_array ∷ [])

@@ -11,21 +11,21 @@ use Rattle.symq_reader.specs.JsonData.{number_or_minus_one, json_items_data}
 
 -- each number is whole and fits 64 bits, also one that a later key replaces
 abbrev mutual
-  pub fits : json.Json → Bool
-  fits json.null = true
-  fits (json.boolean b) = true
-  fits (json.number s) = is_some (as_u64 (number_or_minus_one (number_of s)))
-  fits (json.string s) = true
-  fits (json.array js) = items_fit js
-  fits (json.object ms) = members_fit ms
+  pub json_has_whole_numbers : json.Json → Bool
+  json_has_whole_numbers json.null = true
+  json_has_whole_numbers (json.boolean b) = true
+  json_has_whole_numbers (json.number s) = is_some (as_u64 (number_or_minus_one (number_of s)))
+  json_has_whole_numbers (json.string s) = true
+  json_has_whole_numbers (json.array js) = json_items_have_whole_numbers js
+  json_has_whole_numbers (json.object ms) = json_members_have_whole_numbers ms
 
-  pub items_fit : json.Items → Bool
-  items_fit json.no_items = true
-  items_fit (json.item j js) = fits j && items_fit js
+  pub json_items_have_whole_numbers : json.Items → Bool
+  json_items_have_whole_numbers json.no_items = true
+  json_items_have_whole_numbers (json.item j js) = json_has_whole_numbers j && json_items_have_whole_numbers js
 
-  pub members_fit : json.Members → Bool
-  members_fit json.no_members = true
-  members_fit (json.member k j ms) = fits j && members_fit ms
+  pub json_members_have_whole_numbers : json.Members → Bool
+  json_members_have_whole_numbers json.no_members = true
+  json_members_have_whole_numbers (json.member k j ms) = json_has_whole_numbers j && json_members_have_whole_numbers ms
 
 -- the data of a list's items; none if there is no list
 abbrev pub optional_items_data : {A : Type 0} → Option (Bor (List (Value A))) → Items

@@ -7,7 +7,7 @@ use Rattle.json.specs.Json as json
 use Rattle.json.specs.Tree.{json_tokens}
 use Rattle.symbols_ast.specs.declared.graph.raw.RawModule.{RawModule}
 use Rattle.symq_reader.specs.JsonData.{json_items_data}
-use Rattle.symq_reader.specs.inner.JsonData.{items_fit}
+use Rattle.symq_reader.specs.inner.JsonData.{json_items_have_whole_numbers}
 use Rattle.symq_reader.specs.GraphText.{as_module, raw_module_view}
 use Rattle.symq_reader.specs.inner.Streams.{ConsumesItems, ReadsValue}
 use Rattle.symq_reader.specs.UnderKeys.{read_each_item}
@@ -38,7 +38,7 @@ pub record ConsumesValues (old : List Token) (values : json.Items) (new : List T
 
 -- the modules after are those before, with the modules of these values appended
 pub record AreModulesAppended (values : json.Items) (before after : List RawModule) : Type 0 where
-  pub fit : items_fit values ≡ true
+  pub fit : json_items_have_whole_numbers values ≡ true
   pub modules : List RawModule
   pub pushed : after ≡ before ++ modules
   pub are : read_each_item as_module (json_items_data values) ≡ Some (map raw_module_view modules)

@@ -7,7 +7,7 @@ use Rattle.json.specs.Json.{value, items, members, read_key}
 use Rattle.json.specs.Find.{get_member}
 use Rattle.serde_json.specs.Data.{Data}
 use Rattle.symq_reader.specs.JsonData.{json_data, json_items_data}
-use Rattle.symq_reader.specs.inner.JsonData.{fits, items_fit, members_fit}
+use Rattle.symq_reader.specs.inner.JsonData.{json_has_whole_numbers, json_items_have_whole_numbers, json_members_have_whole_numbers}
 use Rattle.symq_reader.specs.GraphText.{RawTreeView, RawModuleView, RawModuleKindView, esm, json as json_module, external}
 use Rattle.symq_reader.specs.UnderKeys.{none_if_null, read_if_present, read_each_item, array_items_or_empty}
 
@@ -38,14 +38,14 @@ pub record SkipsToKey (depth : ℕ) (old : List Token) (key : List ℕ) (found_k
   pub key_tokens : List Token
   pub took : ConsumesMembers depth old done key_tokens
   pub next : read_key key_tokens ≡ Some (if found_key then Some key else None, new)
-  pub fit : members_fit done ≡ true
+  pub fit : json_members_have_whole_numbers done ≡ true
   pub none : get_member key done ≡ None
 
 -- the object was read, the value under the key is `there`, and the other members are in `retained`
 pub record ReadsMemberApart (depth : ℕ) (old new : List Token) (key : List ℕ) (there : Option json.Json) (retained : json.Members) : Type 0 where
   pub all : json.Members
   pub read : members (value depth) (length old) old ≡ Some (all, new)
-  pub fit : members_fit all ≡ true
+  pub fit : json_members_have_whole_numbers all ≡ true
   pub under : get_member key all ≡ there
   pub other_items : (q : List ℕ) → (q ≡ key → ⊥) → get_member q retained ≡ get_member q all
 
@@ -61,21 +61,21 @@ value_in_optional_data form o = read_if_present form (option_and_then none_if_nu
 pub record ReadsValue {A : Type 0} (depth : ℕ) (old new : List Token) (form : Data → Option A) (x : A) : Type 0 where
   pub at : json.Json
   pub read : value depth old ≡ Some (at, new)
-  pub fit : fits at ≡ true
+  pub fit : json_has_whole_numbers at ≡ true
   pub is : form (json_data at) ≡ Some x
 
 -- the items of a list were read; their numbers are whole, and the form reads them as xs
 pub record ReadsItems {A : Type 0} (depth : ℕ) (old new : List Token) (form : Data → Option A) (xs : List A) : Type 0 where
   pub all : json.Items
   pub read : items (value depth) (length old) old ≡ Some (all, new)
-  pub fit : items_fit all ≡ true
+  pub fit : json_items_have_whole_numbers all ≡ true
   pub are : read_each_item form (json_items_data all) ≡ Some xs
 
 -- the members of an object were read; their numbers are whole, and the form reads the object as x
 pub record ReadsMembers {A : Type 0} (depth : ℕ) (old new : List Token) (form : Data → Option A) (x : A) : Type 0 where
   pub all : json.Members
   pub read : members (value depth) (length old) old ≡ Some (all, new)
-  pub fit : members_fit all ≡ true
+  pub fit : json_members_have_whole_numbers all ≡ true
   pub is : form (json_data (json.object all)) ≡ Some x
 
 -- ---- a module whose tree was read apart

@@ -7,7 +7,7 @@ use Rattle.symbols_ast.specs.declared.ids.SymbolId.{SymbolId}
 use Rattle.symbols_table.specs.declared.info.fault.SymbolsFault.TheVariants.{OutOfMemory}
 use Rattle.symbols_root.specs.Roots.{RootView, maybe_specifier, specifier_in}
 use Rattle.symbols_exports.specs.inner.OneName.{IsExportWalkAnswer}
-use Rattle.symbols_exports.specs.SharedNameLists.{groups_with_shared_exporters}
+use Rattle.symbols_exports.specs.SharedNameLists.{groups_of_several_first_along_star}
 use Rattle.symbols_exports.specs.inner.Collecting.{is_along_stars}
 use Rattle.symbols_exports.specs.inner.NameFilter.{accepted_exports_of, collects_shared}
 use Rattle.symbols_exports.specs.declared.module_exports.ModuleExports.{ModuleExports}
@@ -15,8 +15,8 @@ use Rattle.symbols_exports.specs.declared.frame.Frame.{Frame}
 use Rattle.symbols_exports.specs.declared.name_filter.NameFilter.{NameFilter}
 use Rattle.symbols_exports.specs.StarStatements.{resolve_specifier}
 use Rattle.symbols_exports.specs.CollectedNames.{unresolved_star_view, resolved_export_views, resolved_shared_name_views}
-use Rattle.symbols_exports.specs.inner.Collecting.{CollectedView, ExportWalkView, nothing_collected, with_unresolved, walk_with_exports_of_module}
-use Rattle.symbols_exports.specs.inner.Collecting.{is_same_module, frame_view}
+use Rattle.symbols_exports.specs.inner.Collecting.{CollectedView, CollectedExportsView, nothing_collected, walk_with_unresolved_star}
+use Rattle.symbols_exports.specs.inner.Collecting.{walk_with_exports_of_module, is_same_module, frame_view}
 use Rattle.symbols_exports.proofs.CandidatesOfWalk.{graph_with_put_module, module_explicit}
 use Rattle.symbols_exports.proofs.StoringWalk.{IsWalking}
 use Rattle.symbols_exports.proofs.StepsByCalls as walking
@@ -61,9 +61,10 @@ walk-init c =
     c.in_ok-insert.ensures.keys ∙ ap (λ ks. insert_key is_same_module ks c.args.module_id) c.new-visited.ensures.empty in
     let frames : map frame_view c.deref.result.now ≡ [] = ap (map frame_view) (c.deref.ensures.value ∙ c.new-stack.ensures.items) in
     let keeps : c.new-collected.result.keeps ≡ collects_shared c.args.name_filter c.args.root.now.rules =
-    ap (λ (w : ExportWalkView). w.keeps) c.new-collected.ensures ∙ (c.collects_shared.ensures ∙ ap (collects_shared c.args.name_filter) c.rules.ensures) in
+    ap (λ (w : CollectedExportsView). w.keeps) c.new-collected.ensures ∙ (c.collects_shared.ensures ∙ ap (collects_shared c.args.name_filter) c.rules.ensures)
+    in
     let collected : c.collect_from_module.new.self.collected ≡ graph_with_put_module c.args.name_filter c.args.root.now [] c.args.module_id nothing_collected =
-    ap (λ (w : ExportWalkView). w.collected) c.in_ok-collect_from_module.ensures
+    ap (λ (w : CollectedExportsView). w.collected) c.in_ok-collect_from_module.ensures
     ∙ (module_explicit c.args.name_filter c.args.root.now (map frame_view c.deref.result.now)
     c.args.module_id c.new-collected.result keeps
     ∙ (λ i. graph_with_put_module c.args.name_filter c.args.root.now (frames i) c.args.module_id ((c.new-collected.ensures i).collected))) in (
@@ -73,7 +74,7 @@ walk-init c =
           c.new-stack.result.items c.insert.new.self.keys t 0) (sym collected) (rw (c.new-stack.ensures.items, keys) (walking.begun c.args.name_filter
           c.args.root.now c.args.module_id known)),
       rw keys (omega arith),
-      ap (λ (w : ExportWalkView). w.keeps) c.in_ok-collect_from_module.ensures ∙ keeps,
+      ap (λ (w : CollectedExportsView). w.keeps) c.in_ok-collect_from_module.ensures ∙ keeps,
     )
 
 pub resolve_specifier-requires-clause-room : goal.resolve_specifier-requires-clause-room
@@ -122,8 +123,8 @@ walk-preserved-in-Ok-None c =
     let collected : c.collect_unresolved.new.self.collected ≡ record c.walk.collected.collected {
       unresolved = c.walk.collected.collected.unresolved
           ++ (c.walk.here, c.in-Some.frame.specifier_text.now) ∷ [];
-    } = ap (λ (w : ExportWalkView). w.collected) c.in_ok-collect_unresolved-in-Ok-None.ensures
-    ∙ (λ i. (with_unresolved (frame_view (this c.in-Some.frame c.walk.here c.walk.next c.in-Some.ensures.index i)) c.walk.collected).collected) in (
+    } = ap (λ (w : CollectedExportsView). w.collected) c.in_ok-collect_unresolved-in-Ok-None.ensures
+    ∙ (λ i. (walk_with_unresolved_star (frame_view (this c.in-Some.frame c.walk.here c.walk.next c.in-Some.ensures.index i)) c.walk.collected).collected) in (
       c.walk.invariant.0 + 1,
       (one_more c.args.counter.now.count c.walk.counter.count c.resolve_specifier.new.counter.count c.walk.invariant.0
           c.resolve_specifier.ensures.counted c.walk.invariant.1),
@@ -134,7 +135,7 @@ walk-preserved-in-Ok-None c =
           c.resolve_specifier.new.root c.in-Ok-None.ensures.stored (subst (gives c.resolve_specifier.new.root c.walk.root c.walk.here
           c.in-Some.frame.specifier_text.now) c.in-Ok-None.field-0-is c.in-Ok-None.ensures.gives) (sym c.is_name_search_done.ensures ∙ c.walk-test.true)),
       c.walk.invariant.3,
-      ap (λ (w : ExportWalkView). w.keeps) c.in_ok-collect_unresolved-in-Ok-None.ensures
+      ap (λ (w : CollectedExportsView). w.keeps) c.in_ok-collect_unresolved-in-Ok-None.ensures
           ∙ (c.walk.invariant.4 ∙ ap (collects_shared c.args.name_filter) (sym c.resolve_specifier.ensures.keeps.grown.rules)),
     )
 
@@ -190,7 +191,7 @@ walk-preserved-then-branch c =
     ∙ (λ i. walk_with_exports_of_module (map frame_view (c.walk.stack.items ++ same i ∷ [])) c.in-Ok-Some.target explicit c.walk.collected) in
     let collected : c.visit_module.new.collected.collected ≡ graph_with_put_module c.args.name_filter c.resolve_specifier.new.root
     (map frame_view (c.walk.stack.items
-    ++ here ∷ [])) c.in-Ok-Some.target c.walk.collected.collected = ap (λ (w : ExportWalkView). w.collected) state
+    ++ here ∷ [])) c.in-Ok-Some.target c.walk.collected.collected = ap (λ (w : CollectedExportsView). w.collected) state
     ∙ module_explicit c.args.name_filter c.resolve_specifier.new.root (map frame_view
     (c.walk.stack.items ++ here ∷ [])) c.in-Ok-Some.target c.walk.collected keeps in (
       c.walk.invariant.0 + 1,
@@ -203,7 +204,7 @@ walk-preserved-then-branch c =
           (subst (gives c.resolve_specifier.new.root c.walk.root c.walk.here c.in-Some.frame.specifier_text.now) c.in-Ok-Some.field-0-is
           c.in-Ok-Some.ensures.gives) c.stored_modules_distinct.ensures key.0 (sym c.is_name_search_done.ensures ∙ c.walk-test.true))),
       rw key.1 (omega (arith, c.in_ok-visit_module-in-Ok-Some.ensures.few c.if-branch.true, length_push c.walk.visited.keys c.in-Ok-Some.target)),
-      ap (λ (w : ExportWalkView). w.keeps) state ∙ keeps,
+      ap (λ (w : CollectedExportsView). w.keeps) state ∙ keeps,
     )
 
 pub overflow_add-next-else-branch : goal.overflow_add-next-else-branch
@@ -238,7 +239,7 @@ walk-preserved-else-branch c =
     let state : c.visit_module.new.collected ≡ c.walk.collected = walking.if_old c.in_ok-visit_module-in-Ok-Some.field-0 c.visit_module.new.collected
     (walk_with_exports_of_module (map frame_view (c.walk.stack.items ++ c.in-Some.frame ∷ [])) c.in-Ok-Some.target explicit
     c.walk.collected) c.walk.collected c.in_ok-visit_module-in-Ok-Some.ensures.collected c.if-branch.false in
-    let collected : c.visit_module.new.collected.collected ≡ c.walk.collected.collected = ap (λ (w : ExportWalkView). w.collected) state in (
+    let collected : c.visit_module.new.collected.collected ≡ c.walk.collected.collected = ap (λ (w : CollectedExportsView). w.collected) state in (
       c.walk.invariant.0 + 1,
       (one_more c.args.counter.now.count c.walk.counter.count c.resolve_specifier.new.counter.count c.walk.invariant.0
           c.resolve_specifier.ensures.counted c.walk.invariant.1),
@@ -249,7 +250,7 @@ walk-preserved-else-branch c =
           (subst (gives c.resolve_specifier.new.root c.walk.root c.walk.here c.in-Some.frame.specifier_text.now) c.in-Ok-Some.field-0-is
           c.in-Ok-Some.ensures.gives) c.stored_modules_distinct.ensures key.0 (sym c.is_name_search_done.ensures ∙ c.walk-test.true))),
       rw key.1 c.walk.invariant.3,
-      ap (λ (w : ExportWalkView). w.keeps) state
+      ap (λ (w : CollectedExportsView). w.keeps) state
           ∙ (c.walk.invariant.4 ∙ ap (collects_shared c.args.name_filter) (sym c.resolve_specifier.ensures.keeps.grown.rules)),
     )
 
@@ -279,20 +280,21 @@ walk-preserved c =
 -- the result at the end, or a failed allocation for it
 abbrev Given : NameFilter → RootView → ModuleId → RootView → CollectedView → ℕ → Type 0
 Given name_filter old start root collected lookups =
-    IsExportWalkAnswer name_filter old root start collected.names (groups_with_shared_exporters is_along_stars collected.candidates) collected.unresolved
+    IsExportWalkAnswer name_filter old root start collected.names (groups_of_several_first_along_star is_along_stars collected.candidates) collected.unresolved
     lookups
 
 given : (name_filter : NameFilter) (old : RootView) (start : ModuleId) (root : RootView) (collected : CollectedView) (lookups before now : ℕ)
     (answer : ModuleExports) → now ≡ before + lookups → resolved_export_views answer.resolved.entries ≡ collected.names
     → resolved_shared_name_views answer.shared.items
-    ≡ groups_with_shared_exporters is_along_stars collected.candidates → map unresolved_star_view answer.unresolved_specifiers.items ≡ collected.unresolved
+    ≡ groups_of_several_first_along_star is_along_stars collected.candidates → map unresolved_star_view answer.unresolved_specifiers.items
+    ≡ collected.unresolved
     → Given name_filter old start root collected lookups → (lookups : ℕ) × (now ≡ before + lookups)
     × IsExportWalkAnswer name_filter old root start (resolved_export_views
     answer.resolved.entries) (resolved_shared_name_views answer.shared.items) (map unresolved_star_view answer.unresolved_specifiers.items) lookups
 given name_filter old start root collected lookups before now answer counted names shared unresolved is = (
   lookups,
   counted,
-  walked_alike name_filter old root start collected.names (resolved_export_views answer.resolved.entries) (groups_with_shared_exporters is_along_stars
+  walked_alike name_filter old root start collected.names (resolved_export_views answer.resolved.entries) (groups_of_several_first_along_star is_along_stars
       collected.candidates) (resolved_shared_name_views answer.shared.items) collected.unresolved
       (map unresolved_star_view answer.unresolved_specifiers.items) lookups names
       shared
@@ -302,7 +304,8 @@ given name_filter old start root collected lookups before now answer counted nam
 refused : (name_filter : NameFilter) (old : RootView) (start : ModuleId) (root : RootView) (collected : CollectedView) (lookups before now : ℕ)
     → now ≡ before + lookups → Given name_filter old start root collected lookups → Broken name_filter old start root before now OutOfMemory
 refused name_filter old start root collected lookups before now counted is = broken_off name_filter old start root before now lookups OutOfMemory counted
-    (cut_after name_filter old root start collected.names (groups_with_shared_exporters is_along_stars collected.candidates) collected.unresolved lookups is)
+    (cut_after name_filter old root start collected.names (groups_of_several_first_along_star is_along_stars collected.candidates) collected.unresolved lookups
+    is)
 
 pub returns-in_default-pop-clause-answers : goal.returns-in_default-pop-clause-answers
 returns-in_default-pop-clause-answers c =

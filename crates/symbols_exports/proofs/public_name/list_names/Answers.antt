@@ -5,7 +5,7 @@ use Rattle.symbols_root.specs.Roots.{RootView, specifier_in}
 use Rattle.symbols_exports.specs.declared.export_chain.ResolvedExport.{ResolvedExport}
 use Rattle.symbols_exports.specs.declared.export_chain.ResolvedExportOrReExportAllPath.{ResolvedExportOrReExportAllPath}
 use Rattle.symbols_exports.specs.ExportChains.{resolved_export}
-use Rattle.symbols_exports.specs.PublicNames.{PublicNameView, public_name_view, exports_of_symbol, public_names_with_members}
+use Rattle.symbols_exports.specs.PublicNames.{ExportedNameWithMember, public_name_view, exports_of_symbol, public_names_with_members}
 use Rattle.symbols_exports.specs.inner.PublicNames.{public_names_of_export, IsExplicitExport}
 use Rattle.symbols_exports.specs.CollectedNames.{ResolvedExportView, resolved_export_view, resolved_export_views}
 use Rattle.symbols_exports.proofs.public_name.list_names.Goals as goal
@@ -23,7 +23,7 @@ explicit_first root first rest export at explicit = subst (IsExplicitExport root
 explicit_rest : (root : RootView) (first : Named) (rest : List Named) → AreExplicit root (first ∷ rest) → AreExplicit root rest
 explicit_rest root first rest explicit k d within = explicit (suc k) d (omega (arith, within))
 
-listed_on : (root : RootView) (was made all : List PublicNameView) (first : Named) (rest : List Named) (export : ResolvedExport) (name : List ℕ)
+listed_on : (root : RootView) (was made all : List ExportedNameWithMember) (first : Named) (rest : List Named) (export : ResolvedExport) (name : List ℕ)
     → export ≡ resolved_export first.1 → name ≡ string_bytes first.0 → made ≡ was ++ public_names_with_members name (exports_of_symbol root.graph
     (specifier_in root export.«module») export.symbol_id) → was ++ flat_map (public_names_of_export root) (resolved_export_views (first ∷ rest)) ≡ all
     → made ++ flat_map (public_names_of_export root) (resolved_export_views rest) ≡ all
@@ -43,7 +43,7 @@ add_name-requires c =
 pub loop-name-preserved : goal.loop-name-preserved
 loop-name-preserved c =
     let first : Named = (c.in-Some.name.now, c.in-Some.chain.now) in
-    let all : List PublicNameView = flat_map (public_names_of_export c.args.root.now) (resolved_export_views c.args.resolved.now.entries) in
+    let all : List ExportedNameWithMember = flat_map (public_names_of_export c.args.root.now) (resolved_export_views c.args.resolved.now.entries) in
     record {
       explicit = explicit_rest c.args.root.now first c.next.new.self
           (subst (AreExplicit c.args.root.now) c.in-Some.ensures.steps c.loop-name.invariant.explicit);

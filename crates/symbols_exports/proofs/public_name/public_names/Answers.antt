@@ -2,7 +2,7 @@ use Rattle.std.proofs.Common.{ℕ, sym, subst, ◌∙◌}
 use Rattle.std.specs.Prelude.{◌≢◌, AllPairs}
 use Rattle.symbols_root.specs.Roots.{specifier_in}
 use Rattle.symbols_exports.specs.ExportAnswers.{IsExportsCallFault}
-use Rattle.symbols_exports.specs.PublicNames.{PublicNameView}
+use Rattle.symbols_exports.specs.PublicNames.{ExportedNameWithMember}
 use Rattle.symbols_exports.specs.CollectedNames.{resolved_export_views}
 use Rattle.symbols_exports.proofs.PublicNameItems.{public_apart, items_viewed, all_explicit, refused_after}
 use Rattle.symbols_exports.proofs.WalkEndsByFilter.{on_memory}
@@ -42,4 +42,4 @@ returns-clause-once c =
     let start = specifier_in c.args.root.now c.args.module_id in
     let items = c.in_ok-list_names.ensures ∙ items_viewed c.exports.new.root c.args.root.now.graph start (resolved_export_views
     c.in_ok-found.found.resolved.entries) c.in_ok-found.ensures.grown.graph answer.are_exports_of_module in
-    subst (AllPairs (λ (a b : PublicNameView). a ≢ b)) (sym items) (public_apart c.args.root.now.graph start)
+    subst (AllPairs (λ (a b : ExportedNameWithMember). a ≢ b)) (sym items) (public_apart c.args.root.now.graph start)

@@ -1,7 +1,7 @@
 use Rattle.std.proofs.Common.{◌∷◌, [], ap, sym, subst, ◌∙◌}
 use Rattle.std.proofs.lemmas.Result.{IfOk-weaker}
 use Rattle.symbols_paths.specs.Views.{module_of_end, AreModulesStored}
-use Rattle.symbols_paths.specs.inner.PathBuilders.{link_heads_of_segments, forest_below_links, modules_of_segments}
+use Rattle.symbols_paths.specs.inner.PathBuilders.{reversed_link_heads_of_segments, forest_below_reversed_links, modules_of_segments}
 use Rattle.symbols_paths.proofs.BuilderLemmas.{named_to, modules_to, stored_apart}
 use Rattle.symbols_paths.proofs.build_paths.path_below_segments.Goals as goal
 
@@ -9,7 +9,7 @@ pub returns-clause-view : goal.returns-clause-view
 returns-clause-view c =
     IfOk-weaker c.prepend_segments.result _ _ (λ paths view root.
     view root
-    ∙ (ap (forest_below_links (link_heads_of_segments root c.args.segments.items)) (c.in_ok-next.ensures.view root)
+    ∙ (ap (forest_below_reversed_links (reversed_link_heads_of_segments root c.args.segments.items)) (c.in_ok-next.ensures.view root)
     ∙ sym (named_to root c.args.segments c.args.end))) c.prepend_segments.ensures.view
 
 pub returns-clause-stored : goal.returns-clause-stored

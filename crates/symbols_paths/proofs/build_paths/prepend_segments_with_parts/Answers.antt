@@ -1,7 +1,8 @@
 use Rattle.std.proofs.Common.{◌++◌, Some, ap, sym, subst, ◌∙◌, reverse, arith}
 use Rattle.std.proofs.lemmas.List.{nil_from_length, reverse-reverse}
 use Rattle.symbols_paths.specs.Views.{paths_by_specifier, AreModulesStored}
-use Rattle.symbols_paths.specs.inner.PathBuilders.{remaining_parts, link_heads_of_segment, link_heads_with_parts, forest_below_links, modules_of_segment}
+use Rattle.symbols_paths.specs.inner.PathBuilders.{remaining_parts, reversed_link_heads_of_segment, link_heads_with_parts_replaced, forest_below_reversed_links}
+use Rattle.symbols_paths.specs.inner.PathBuilders.{modules_of_segment}
 use Rattle.symbols_paths.proofs.BuilderLemmas.{heads_of_step, modules_of_one_step}
 use Rattle.symbols_paths.proofs.BuiltPaths.{AreLaid, laid_first, laid_next, laid_last}
 use Rattle.symbols_paths.proofs.VisitedBuilders.{laid_under}
@@ -24,8 +25,8 @@ loop-segment-preserved-in-LinkStep c =
     (popped_first c.loop-segment.stack.items c.pop.new.self.items c.in-Some.segment c.in-Some.ensures.items) c.loop-segment.invariant in
     laid_next c.in-Some.segment c.in_ok-paths-in-LinkStep.paths.items so
     (λ root. c.in_ok-paths-in-LinkStep.ensures.view root
-    ∙ ap (λ heads. forest_below_links (link_heads_with_parts ps heads) (paths_by_specifier root c.loop-segment.paths.items))
-    (sym (ap (link_heads_of_segment root) x.ensures ∙ heads_of_step root x.step)))
+    ∙ ap (λ heads. forest_below_reversed_links (link_heads_with_parts_replaced ps heads) (paths_by_specifier root c.loop-segment.paths.items))
+    (sym (ap (reversed_link_heads_of_segment root) x.ensures ∙ heads_of_step root x.step)))
     (λ root a b. c.in_ok-paths-in-LinkStep.ensures.stored root
     (subst (AreModulesStored root) (ap modules_of_segment x.ensures ∙ modules_of_one_step x.step) a 0 x.step.symbol.module_id (omega arith)) b)
 

@@ -7,7 +7,7 @@ use Rattle.symbols_paths.specs.NeededModules.{at_search_start, part_of_query, Is
 use Rattle.symbols_paths.specs.inner.Needed.{IsNeededFrom}
 use Rattle.symbols_paths.specs.inner.PathBuilders.{remaining_parts}
 use Rattle.symbols_paths.specs.inner.SearchSteps.{ArePathsFoundWithParts}
-use Rattle.symbols_paths.specs.inner.SearchInvariants.{parts_of_frames}
+use Rattle.symbols_paths.specs.inner.SearchInvariants.{parts_of_top_frame}
 use Rattle.symbols_paths.proofs.SearchLoop.{parts_found, parts_searched}
 use Rattle.symbols_paths.proofs.definition_search.resolve_qualified_name_internal.Goals as goal
 
@@ -28,7 +28,7 @@ pub returns-clause-after_call : goal.returns-clause-after_call
 returns-clause-after_call c =
     let frames : c.push_front.new.self.items ≡ Parts c.in_ok-same.field-0 ∷ [] =
     c.in_ok-push_front.ensures.items ∙ ap (λ (fs : List Frame). Parts c.in_ok-same.field-0 ∷ fs) c.new-frames.ensures.items in
-    let parts : parts_of_frames c.push_front.new.self.items ≡ remaining_parts c.args.parts.now = ap parts_of_frames frames ∙ c.in_ok-same.ensures in
+    let parts : parts_of_top_frame c.push_front.new.self.items ≡ remaining_parts c.args.parts.now = ap parts_of_top_frame frames ∙ c.in_ok-same.ensures in
     let old = c.args.root.now in
     let new = c.search_from.new.root in
     record {

@@ -1,4 +1,4 @@
-use Rattle.symbols_paths.specs.inner.SearchWork.{work}
+use Rattle.symbols_paths.specs.inner.SearchWork.{remaining_search_work}
 use Rattle.symbols_paths.proofs.SearchLoop.{AreSteps}
 use Rattle.symbols_paths.proofs.definition_search.take_steps.Given as goal
 
@@ -10,4 +10,4 @@ invariant-steps g l = AreSteps g.start l.fn.root l.fn.state.visited.keys l.fn.st
     l.state.visited.keys l.state.frames.items l.step
 
 abbrev pub decreases-steps : goal.decreases-steps
-decreases-steps g l = work g.start.running l.state.visited.keys l.state.frames.items l.step
+decreases-steps g l = remaining_search_work g.start.running l.state.visited.keys l.state.frames.items l.step

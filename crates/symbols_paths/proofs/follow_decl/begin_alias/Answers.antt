@@ -1,7 +1,7 @@
 use Rattle.std.proofs.Common.{◌≡◌, ◌∷◌, ◌++◌, [], ◌∙◌, true, false, refl, subst, arith}
 use Rattle.std.specs.List.{list_any}
 use Rattle.symbols_paths.specs.declared.alias_decl.AliasDecl.{AliasDecl}
-use Rattle.symbols_paths.specs.inner.StillToCome.{alias_at}
+use Rattle.symbols_paths.specs.inner.StillToCome.{alias_at_current_decl}
 use Rattle.symbols_paths.specs.declared.search_step.AliasSearch.{AliasSearch}
 use Rattle.symbols_paths.proofs.SearchSteps.{is_alias_decl}
 use Rattle.symbols_paths.proofs.Sets.{new_key, old_key, few_before}
@@ -13,7 +13,7 @@ returns-then-not-is_new g c =
     let running = c.args.state.now.resolving.keys in
     let here = c.args.here in
     let alias : AliasDecl = record { «module» = here.symbol.module_id; decl = c.decl.result } in
-    let same : alias ≡ alias_at here = (λ i. record { «module» = here.symbol.module_id; decl = c.decl.ensures i }) in
+    let same : alias ≡ alias_at_current_decl here = (λ i. record { «module» = here.symbol.module_id; decl = c.decl.ensures i }) in
     let old = old_key is_alias_decl running c.insert_full.new.self.keys alias c.in_ok-is_new.is_new c.in_ok-is_new.ensures.added
     c.in_ok-is_new.ensures.keys c.if-not-is_new.true in
     rw old.1 (step_running g.start c.args.root.now running c.args.state.now.visited.keys c.args.state.now.frames.items here c.requires.0
@@ -26,7 +26,7 @@ returns g c =
     let running = c.args.state.now.resolving.keys in
     let here = c.args.here in
     let alias : AliasDecl = record { «module» = here.symbol.module_id; decl = c.decl.result } in
-    let same : alias ≡ alias_at here = (λ i. record { «module» = here.symbol.module_id; decl = c.decl.ensures i }) in
+    let same : alias ≡ alias_at_current_decl here = (λ i. record { «module» = here.symbol.module_id; decl = c.decl.ensures i }) in
     let new = new_key is_alias_decl running c.insert_full.new.self.keys alias c.in_ok-is_new.is_new c.in_ok-is_new.ensures.added
     c.in_ok-is_new.ensures.keys c.if-not-is_new.false in
     let few = few_before is_alias_decl running alias c.in_ok-is_new.field-0-0 new.0 c.in_ok-is_new.ensures.index (omega arith) in

@@ -3,11 +3,11 @@ use Rattle.symbols_root.specs.Roots.{RootView, specifier_in}
 use Rattle.symbols_root.specs.laws.Growing.{stored_id_remains_stored}
 use Rattle.symbols_root.specs.laws.Numbers.{id_is_that_of_found_module, no_id_no_module_found}
 use Rattle.symbols_exports.specs.StarStatements.{resolve_specifier}
-use Rattle.symbols_paths.specs.PathTrees.{no_module, unresolved, leaf, forest_of_tree, link_unless_empty, joined_forests}
+use Rattle.symbols_paths.specs.PathTrees.{no_module, unresolved, leaf, forest_of_tree, forest_below_link_unless_empty, joined_forests}
 use Rattle.symbols_paths.specs.DeclTargets.{explicit_export, searches_stars_for}
 use Rattle.symbols_paths.specs.Views.{strings_view}
 use Rattle.symbols_paths.specs.inner.PathBuilders.{built_paths}
-use Rattle.symbols_paths.specs.inner.StillToCome.{link_head_of}
+use Rattle.symbols_paths.specs.inner.StillToCome.{link_head_of_current_decl}
 use Rattle.symbols_paths.proofs.GrownRoots.{all_still_stored}
 use Rattle.symbols_paths.proofs.Forwards.{target_later}
 use Rattle.symbols_paths.proofs.Needing.{refused_target}
@@ -105,7 +105,7 @@ returns-in-Ok-None-clause-steps g c =
       symbol = is.symbol;
       index = is.index;
       paths = λ (root : RootView). is.paths root ∙ ap (λ f. joined_forests (built_paths root here.paths.items)
-          (link_unless_empty (link_head_of root here here.symbol) f)) (c.in_ok-next-in-Ok-None.ensures.view root
+          (forest_below_link_unless_empty (link_head_of_current_decl root here here.symbol) f)) (c.in_ok-next-in-Ok-None.ensures.view root
           ∙ (λ i. forest_of_tree (leaf (unresolved (record {
             specifier = specifier_in root here.symbol.module_id;
             reason = no_module (c.in_ok-specifier_text-in-Ok-None.ensures.ok i);

@@ -3,8 +3,8 @@ use Rattle.std.specs.Prelude.{vec_len}
 use Rattle.symbols_paths.specs.declared.path_builder.PathBuilder.TheVariants as builder
 use Rattle.symbols_paths.specs.PathTrees.{joined_forests}
 use Rattle.symbols_paths.specs.Views.{AreModulesStored}
-use Rattle.symbols_paths.specs.inner.PathBuilders.{link_heads_of_segments, forest_below_links, built_path, built_paths, modules_of_segments, modules_of_builder}
-use Rattle.symbols_paths.specs.inner.PathBuilders.{modules_of_builders}
+use Rattle.symbols_paths.specs.inner.PathBuilders.{reversed_link_heads_of_segments, forest_below_reversed_links, built_path, built_paths, modules_of_segments}
+use Rattle.symbols_paths.specs.inner.PathBuilders.{modules_of_builder, modules_of_builders}
 use Rattle.symbols_paths.proofs.NamedPathLemmas.{none_at}
 use Rattle.symbols_paths.proofs.BuilderLemmas.{named_fork, modules_fork, named_alone, named_with_builder, modules_with_builder, stored_one}
 use Rattle.symbols_paths.proofs.path_builder.join_builders.Goals as goal
@@ -19,7 +19,7 @@ pub returns-clause-view : goal.returns-clause-view
 returns-clause-view c = λ root.
     let branches = c.pop.new.self in
     named_fork root c.new-2.result branches c.in_ok-last.last
-    ∙ ((λ i. forest_below_links (link_heads_of_segments root (c.new-2.ensures.items i))
+    ∙ ((λ i. forest_below_reversed_links (reversed_link_heads_of_segments root (c.new-2.ensures.items i))
     (joined_forests (built_paths root branches.items) (built_path root (c.in_ok-last.ensures.ok i))))
     ∙ (sym (named_with_builder root branches.items c.in-Some.last) ∙ ap (built_paths root) (sym c.in-Some.ensures.items)))
 

@@ -1,7 +1,8 @@
 use Rattle.std.proofs.Common.{ap, sym, subst, ◌∙◌, ◌++◌, ◌∷◌, []}
 use Rattle.symbols_paths.specs.PathTrees.{forest_of_tree, leaf, joined_forests}
 use Rattle.symbols_paths.specs.Views.{path_leaf_of_end, module_of_end, AreModulesStored}
-use Rattle.symbols_paths.specs.inner.PathBuilders.{link_heads_of_segment, forest_below_links, built_path, built_paths, modules_of_builder, modules_of_builders}
+use Rattle.symbols_paths.specs.inner.PathBuilders.{reversed_link_heads_of_segment, forest_below_reversed_links, built_path, built_paths, modules_of_builder}
+use Rattle.symbols_paths.specs.inner.PathBuilders.{modules_of_builders}
 use Rattle.symbols_paths.proofs.BuilderLemmas.{named_to, named_fork, modules_to, modules_fork, linked_with, stored_segment}
 use Rattle.symbols_paths.proofs.path_builder.push_segment.Goals as goal
 
@@ -11,7 +12,8 @@ returns-in_ok-push-in-End-clause-view c = λ root.
     named_to root c.push.new.self x.end
     ∙ (linked_with root x.segments.items c.push.new.self.items c.args.segment (forest_of_tree (leaf (path_leaf_of_end root x.end)))
     c.in_ok-push-in-End.ensures.items
-    ∙ ap (forest_below_links (link_heads_of_segment root c.args.segment)) (sym (named_to root x.segments x.end) ∙ ap (built_path root) (sym x.ensures)))
+    ∙ ap (forest_below_reversed_links (reversed_link_heads_of_segment root c.args.segment))
+    (sym (named_to root x.segments x.end) ∙ ap (built_path root) (sym x.ensures)))
 
 pub returns-in_ok-push-in-End-clause-stored : goal.returns-in_ok-push-in-End-clause-stored
 returns-in_ok-push-in-End-clause-stored c = λ root a b.
@@ -26,7 +28,7 @@ returns-in_ok-push-in-Fork-clause-view c = λ root.
     named_fork root c.push-in-Fork.new.self x.branches x.last
     ∙ (linked_with root x.segments.items c.push-in-Fork.new.self.items c.args.segment
     (joined_forests (built_paths root x.branches.items) (built_path root x.last.value)) c.in_ok-push-in-Fork.ensures.items
-    ∙ ap (forest_below_links (link_heads_of_segment root c.args.segment)) (sym (named_fork root x.segments x.branches x.last)
+    ∙ ap (forest_below_reversed_links (reversed_link_heads_of_segment root c.args.segment)) (sym (named_fork root x.segments x.branches x.last)
     ∙ ap (built_path root) (sym x.ensures)))
 
 pub returns-in_ok-push-in-Fork-clause-stored : goal.returns-in_ok-push-in-Fork-clause-stored

@@ -1,10 +1,10 @@
 use Rattle.std.proofs.Common.{◌++◌, [], ◌∷◌, List, map, reverse, ap, refl, sym, subst, ◌∙◌, arith}
 use Rattle.std.proofs.lemmas.List.{nil_from_length}
 use Rattle.symbols_paths.specs.PathTrees.{PathForest}
-use Rattle.symbols_paths.specs.inner.ReplacedDefinitions.{rebuilt}
+use Rattle.symbols_paths.specs.inner.ReplacedDefinitions.{forest_with_definitions_replaced}
 use Rattle.symbols_paths.specs.Views.{module_of_end, AreModulesStored}
-use Rattle.symbols_paths.specs.inner.PathBuilders.{remaining_parts, link_heads_of_segments, link_heads_with_parts, forest_below_links, built_path}
-use Rattle.symbols_paths.specs.inner.PathBuilders.{built_paths_of_option, modules_of_segments, modules_of_builder}
+use Rattle.symbols_paths.specs.inner.PathBuilders.{remaining_parts, reversed_link_heads_of_segments, link_heads_with_parts_replaced}
+use Rattle.symbols_paths.specs.inner.PathBuilders.{forest_below_reversed_links, built_path, built_paths_of_option, modules_of_segments, modules_of_builder}
 use Rattle.symbols_paths.proofs.BuilderLemmas.{modules_to, stored_apart}
 use Rattle.symbols_paths.proofs.BuilderDefinitions.{rebuilt_to}
 use Rattle.symbols_paths.proofs.OpenReplacements.{replacing_begun, replacing_end, replacing_fork, replacing_close, replacing_last, fork_smaller, close_smaller}
@@ -27,14 +27,14 @@ loop-builder-preserved-in-Continue-branch-2 c =
     (λ root.
     let ready = map (built_paths_of_option root) c.loop-builder.changed.items in
     put.ensures.view root
-    ∙ (ap (forest_below_links (link_heads_with_parts ps (link_heads_of_segments root x.segments.items))) (end.ensures.found root ps)
+    ∙ (ap (forest_below_reversed_links (link_heads_with_parts_replaced ps (reversed_link_heads_of_segments root x.segments.items))) (end.ensures.found root ps)
     ∙ (ap (λ (p : PathForest × List PathForest). p.0) (sym (rebuilt_to root ps x.segments x.end ready))
-    ∙ ap (λ builder. (rebuilt ps (built_path root builder) ready).0) (sym x.ensures))))
+    ∙ ap (λ builder. (forest_with_definitions_replaced ps (built_path root builder) ready).0) (sym x.ensures))))
     (λ root.
     let ready = map (built_paths_of_option root) c.loop-builder.changed.items in
     end.ensures.left root ps
     ∙ (ap (λ (p : PathForest × List PathForest). p.1) (sym (rebuilt_to root ps x.segments x.end ready))
-    ∙ ap (λ builder. (rebuilt ps (built_path root builder) ready).1) (sym x.ensures)))
+    ∙ ap (λ builder. (forest_with_definitions_replaced ps (built_path root builder) ready).1) (sym x.ensures)))
     (λ root a b.
     let split = stored_apart root (modules_of_segments x.segments.items) (module_of_end x.end ∷ [])
     (subst (AreModulesStored root) (ap modules_of_builder x.ensures ∙ modules_to x.segments x.end) a) in
@@ -56,8 +56,8 @@ loop-builder-preserved c =
     replacing_close rest.items c.loop-builder.forks.items c.pop-in_default.new.self.items fork c.in_ok-builder.builder (nil_from_length rest.items (omega (arith, c.in_default.ensures.cases.0, rest.ok.0)))
     c.in-Some-pop.ensures.items c.in_ok-push_builder.ensures c.loop-builder.invariant
     (λ root. c.in_ok-builder.ensures.view root
-    ∙ ap (forest_below_links (link_heads_with_parts ps (link_heads_of_segments root fork.segments.items))) (c.in_ok-whole.ensures.view root))
-    (λ root a b. c.in_ok-builder.ensures.stored root a (c.in_ok-whole.ensures.stored root b))
+    ∙ ap (forest_below_reversed_links (link_heads_with_parts_replaced ps (reversed_link_heads_of_segments root fork.segments.items)))
+    (c.in_ok-whole.ensures.view root)) (λ root a b. c.in_ok-builder.ensures.stored root a (c.in_ok-whole.ensures.stored root b))
 
 pub loop-builder-smaller-in-Continue-branch-2 : goal.loop-builder-smaller-in-Continue-branch-2
 loop-builder-smaller-in-Continue-branch-2 c =

@@ -3,7 +3,7 @@ use Rattle.symbols_root.specs.Roots.{RootView}
 use Rattle.symbols_root.specs.laws.Growing.{has_grown_refl, stored_id_remains_stored}
 use Rattle.symbols_paths.specs.declared.search_step.PartsSearch.{PartsSearch}
 use Rattle.symbols_paths.specs.laws.Storing.{newly_stored_among_more}
-use Rattle.symbols_paths.specs.PathTrees.{link_unless_empty}
+use Rattle.symbols_paths.specs.PathTrees.{forest_below_link_unless_empty}
 use Rattle.symbols_paths.specs.Derived.{part_link_head}
 use Rattle.symbols_paths.specs.Views.{strings_view, definition_by_specifier}
 use Rattle.symbols_paths.specs.inner.PathBuilders.{remaining_parts}
@@ -114,7 +114,7 @@ returns-in-Ok-UnresolvedEntry-clause-steps g c =
     }) (option_stored mid path (c.in_ok-path-in-Ok-UnresolvedEntry.ensures.stored mid within
     (c.in_ok-next-in-Ok-UnresolvedEntry.ensures.stored mid missing_stored)))
     (λ (later : RootView). (rw c.deref-in-Ok-UnresolvedEntry.ensures at c.in_ok-path-in-Ok-UnresolvedEntry.ensures.view) later
-    ∙ ap (link_unless_empty (part_link_head (definition_by_specifier later x) (remaining_parts w.parts)))
+    ∙ ap (forest_below_link_unless_empty (part_link_head (definition_by_specifier later x) (remaining_parts w.parts)))
     (c.in_ok-next-in-Ok-UnresolvedEntry.ensures.view later))
 
 pub returns-clause-steps : goal.returns-clause-steps

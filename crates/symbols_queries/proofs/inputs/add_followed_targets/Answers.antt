@@ -3,7 +3,7 @@ use Rattle.std.proofs.lemmas.Result.{on_ok_weaker}
 use Rattle.symbols_table.specs.Modules.{symbol_table_of_ref}
 use Rattle.symbols_root.specs.Roots.{specifier_in}
 use Rattle.symbols_exports.specs.StarStatements.{star_specifiers}
-use Rattle.symbols_answers.specs.InputLists.{with_targets, star_and_import_specifiers, followed_specifiers}
+use Rattle.symbols_answers.specs.InputLists.{append_resolved_specifiers, star_and_import_specifiers, followed_specifiers}
 use Rattle.symbols_queries.specs.Queries.{query_view}
 use Rattle.symbols_queries.specs.declared.query.Query.{Query}
 use Rattle.symbols_queries.proofs.StoredSpecifiers.{stars_requested, stars_and_imports_requested}
@@ -12,9 +12,9 @@ use Rattle.symbols_queries.proofs.inputs.add_followed_targets.Goals as goal
 pub returns-in_ok-add_star_targets-in-Paths : goal.returns-in_ok-add_star_targets-in-Paths
 returns-in_ok-add_star_targets-in-Paths c =
     let root = c.args.root.now in
-    let requested = λ (query : Query). with_targets root.graph (specifier_in root c.args.module_id) c.args.list.now
+    let requested = λ (query : Query). append_resolved_specifiers root.graph (specifier_in root c.args.module_id) c.args.list.now
     (followed_specifiers root.graph (query_view query).question (specifier_in root c.args.module_id)) in
-    let Same = with_targets root.graph (specifier_in root c.args.module_id) c.args.list.now
+    let Same = append_resolved_specifiers root.graph (specifier_in root c.args.module_id) c.args.list.now
     (star_and_import_specifiers root.graph (specifier_in root c.args.module_id)) ≡ requested c.args.query.now in
     let same : Same = elim c.in-Paths.is [
       | inl paths ↦ ap requested (sym paths.2)
@@ -30,9 +30,9 @@ returns-in_ok-add_star_targets-in-Paths c =
 pub returns-in-Exports : goal.returns-in-Exports
 returns-in-Exports c =
     let root = c.args.root.now in
-    let requested = λ (query : Query). with_targets root.graph (specifier_in root c.args.module_id) c.args.list.now
+    let requested = λ (query : Query). append_resolved_specifiers root.graph (specifier_in root c.args.module_id) c.args.list.now
     (followed_specifiers root.graph (query_view query).question (specifier_in root c.args.module_id)) in
-    let Same = with_targets root.graph (specifier_in root c.args.module_id) c.args.list.now
+    let Same = append_resolved_specifiers root.graph (specifier_in root c.args.module_id) c.args.list.now
     (star_specifiers root.graph (specifier_in root c.args.module_id)) ≡ requested c.args.query.now in
     let same : Same = elim c.in-Exports.is [
       | inl exports ↦ ap requested (sym exports.1)

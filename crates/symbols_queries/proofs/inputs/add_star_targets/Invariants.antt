@@ -1,10 +1,10 @@
 use Rattle.std.proofs.Common.{◌≡◌, ◌-◌, ◌^◌, map, take}
 use Rattle.symbols_table.specs.Modules.{symbol_table_of_ref}
-use Rattle.symbols_answers.specs.InputLists.{with_targets}
+use Rattle.symbols_answers.specs.InputLists.{append_resolved_specifiers}
 use Rattle.symbols_queries.proofs.inputs.add_star_targets.Given as goal
 
 abbrev pub invariant-loop-specifier_text : goal.invariant-loop-specifier_text
-invariant-loop-specifier_text l = l.list ≡ with_targets l.graph (symbol_table_of_ref l.info).specifier l.fn.list
+invariant-loop-specifier_text l = l.list ≡ append_resolved_specifiers l.graph (symbol_table_of_ref l.info).specifier l.fn.list
     (take l.position (map (λ star. star.specifier_text) (symbol_table_of_ref l.info).stars))
 
 abbrev pub decreases-loop-specifier_text : goal.decreases-loop-specifier_text

@@ -1,6 +1,6 @@
 use Rattle.std.proofs.Common.{◌≡◌, ◌<◌, length, option_copied, sym, ap, ◌∙◌, arith}
 use Rattle.std.proofs.lemmas.Option.{slice_get_within}
-use Rattle.symbols_answers.specs.InputLists.{with_types_dependency}
+use Rattle.symbols_answers.specs.InputLists.{append_types_dependency}
 use Rattle.symbols_queries.proofs.TypesWalks.{walking_first, walking_next, walking_over, types_found, no_types, no_module}
 use Rattle.symbols_queries.proofs.inputs.add_types_dependencies.Goals as goal
 use Rattle.symbols_queries.proofs.inputs.add_types_dependencies.Goals.{in-Some-get+in-Some-types_dependency+in_ok-add}
@@ -27,7 +27,7 @@ loop-specifier-preserved c =
     let key = c.in-Some.specifier.now in
     let list = c.loop-specifier.list in
     let found = c.get-in-Some.ensures.found in
-    let Adds = c.match-get-2.list ≡ with_types_dependency graph key list in
+    let Adds = c.match-get-2.list ≡ append_types_dependency graph key list in
     let added : Adds = elim c.match-get-2.branch [
       | in-Some-get+in-Some-types_dependency+in_ok-add w ↦ types_found graph list c.match-get-2.list key w.in-Some-types_dependency.types.now
           w.in-Some-get.graph_module.now (sym found ∙ ap option_copied w.in-Some-get.is)

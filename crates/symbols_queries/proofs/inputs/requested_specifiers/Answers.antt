@@ -1,7 +1,7 @@
 use Rattle.std.proofs.Common.{ℕ, ◌<◌, List, [], ◌∷◌, length, sym, ap, ◌∙◌, arith}
 use Rattle.std.proofs.lemmas.Option.{slice_get_within}
 use Rattle.symbols_root.specs.laws.Growing.{has_grown_trans}
-use Rattle.symbols_answers.specs.InputLists.{with_import_type}
+use Rattle.symbols_answers.specs.InputLists.{append_resolved_import_type}
 use Rattle.symbols_queries.specs.Queries.{query_view}
 use Rattle.symbols_queries.proofs.Requesting.{requesting_first, requesting_next_by, requesting_over, requested_stored, keeps_at_err, keeps_out_of_memory}
 use Rattle.symbols_queries.proofs.Requesting.{stored_so_far}
@@ -11,7 +11,7 @@ pub loop-specifier-init : goal.loop-specifier-init
 loop-specifier-init c =
     let query = query_view c.args.query.now in
     requesting_first c.args.root.now query c.add_import_type_target.new.list (c.in_ok-add_import_type_target.ensures
-    ∙ ap (with_import_type c.args.root.now.graph query) (c.new-list.ensures ∙ ap (λ (queried : List ℕ). queried ∷ []) c.specifier.ensures))
+    ∙ ap (append_resolved_import_type c.args.root.now.graph query) (c.new-list.ensures ∙ ap (λ (queried : List ℕ). queried ∷ []) c.specifier.ensures))
 
 pub returns-in-Err-clause-keeps : goal.returns-in-Err-clause-keeps
 returns-in-Err-clause-keeps c =

@@ -1,7 +1,7 @@
 use Rattle.std.proofs.Common.{◌≡◌, true, false, option_copied, Some, None, sym, ap, subst, ◌∙◌, arith}
 use Rattle.std.proofs.lemmas.List.{length_push}
 use Rattle.symbols_ast.specs.Graph.{content_types_dependency}
-use Rattle.symbols_root.specs.laws.Specifiers.{on_err}
+use Rattle.symbols_root.specs.laws.Specifiers.{on_err_if_true}
 use Rattle.symbols_root.specs.laws.TypesChains.{types_chain_is_unique}
 use Rattle.symbols_root.proofs.Following.{IsFollowing, borrowed_specifiers, visited_is, visited_push, following_first}
 use Rattle.symbols_root.proofs.Following.{following_over, following_back, following_room, following_last, following_step, types_followed}
@@ -69,5 +69,5 @@ returns-in_err-insert-clause-types c =
     let m = c.in-Some.graph_module.now in
     let types : content_types_dependency m.content ≡ Some c.in-Some-types_dependency.types.now =
     sym c.types_dependency.ensures ∙ ap option_copied c.in-Some-types_dependency.is in
-    on_err c.from_residual.result (types_followed c.args.graph.now c.args.specifier.now c.in-Some-types_dependency.types.now m types
+    on_err_if_true c.from_residual.result (types_followed c.args.graph.now c.args.specifier.now c.in-Some-types_dependency.types.now m types
     (c.types.invariant.named m (ap option_copied c.in-Some.is)))

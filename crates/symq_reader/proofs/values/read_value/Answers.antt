@@ -3,7 +3,7 @@ use Rattle.json.specs.Json.{value}
 use Rattle.json.specs.Lex.{tokens}
 use Rattle.json.specs.Value.{value_view}
 use Rattle.serde_json.specs.Read.{read}
-use Rattle.symq_reader.specs.inner.JsonData.{fits}
+use Rattle.symq_reader.specs.inner.JsonData.{json_has_whole_numbers}
 use Rattle.symq_reader.proofs.Outcomes.{json_of_bytes-refused}
 use Rattle.symq_reader.proofs.Texts.{fitting_value, misfitting_value, no_value}
 use Rattle.symq_reader.proofs.values.read_value.Goals as goal
@@ -22,7 +22,7 @@ returns-then-fits c =
     let utf8 = c.in-Ok.ensures.cases in
     let j = value_view c.in-Some.found in
     let all : value 127 (tokens c.in-Ok.text.now) ≡ Some (j, []) = search rules in
-    let fit : fits j ≡ true = search rules in
+    let fit : json_has_whole_numbers j ≡ true = search rules in
     fitting_value c.args.bytes.now c.in-Ok.text.now j utf8.1 utf8.0 all fit
 
 pub returns : goal.returns
@@ -30,5 +30,5 @@ returns c =
     let utf8 = c.in-Ok.ensures.cases in
     let j = value_view c.in-Some.found in
     let all : value 127 (tokens c.in-Ok.text.now) ≡ Some (j, []) = search rules in
-    let misfits : fits j ≡ false = search rules in
+    let misfits : json_has_whole_numbers j ≡ false = search rules in
     misfitting_value c.args.bytes.now c.in-Ok.text.now j utf8.1 utf8.0 all misfits

@@ -4,7 +4,7 @@ use Rattle.json.specs.Lex.{tokens}
 use Rattle.json.specs.Value.{value_view}
 use Rattle.serde_json.specs.Read.{read}
 use Rattle.symq_reader.specs.GraphText.{read_outcome_of_json}
-use Rattle.symq_reader.specs.inner.JsonData.{fits}
+use Rattle.symq_reader.specs.inner.JsonData.{json_has_whole_numbers}
 use Rattle.symq_reader.proofs.Outcomes.{json_of_bytes-refused}
 use Rattle.symq_reader.proofs.Texts.{fitting_outcome}
 use Rattle.symq_reader.proofs.whole.graph_of_any_form.Goals as goal
@@ -31,5 +31,5 @@ returns-then-fits c =
     let utf8 = c.in-Ok.ensures.cases in
     let j = value_view c.in-Some.found in
     let all : value 127 (tokens c.in-Ok.text.now) ≡ Some (j, []) = search rules in
-    let fit : fits j ≡ true = search rules in
+    let fit : json_has_whole_numbers j ≡ true = search rules in
     fitting_outcome c.args.bytes.now c.in-Ok.text.now j c.graph.result utf8.1 utf8.0 all fit c.graph.ensures

@@ -11,9 +11,9 @@ use Rattle.symbols_deps.specs.EdgeRules.{FieldEdges, default_edge_rules, edges_t
 use Rattle.symbols_deps.specs.Annotations.{has_type_annotation}
 use Rattle.symbols_deps.specs.EdgeTable.{expr_edges, pat_edges_by_context}
 use Rattle.symbols_deps.specs.inner.KnownFacts.{may_be_reference}
-use Rattle.symbols_deps.specs.inner.TableParts.{type_part_edge_rules}
+use Rattle.symbols_deps.specs.inner.TableParts.{type_part_edge_rules_by_child_kind}
 use Rattle.symbols_nodes.specs.References.{NamespacedReference, namespaced_reference_view, visits_expressions}
-use Rattle.symbols_deps.specs.inner.Visits.{dependencies_along_edges}
+use Rattle.symbols_deps.specs.inner.Visits.{dependencies_of_visited_edges}
 use Rattle.symbols_deps.proofs.KnownLemmas.{left_annotated}
 use Rattle.symbols_deps.proofs.VisitLists.{no_children, no_child, open_child, node_and_below, alone_and_below}
 use Rattle.symbols_deps.proofs.VisitLists.{parts_and_below, at_binding, at_annotation, at_bare, each_take_more}
@@ -59,7 +59,8 @@ visit_node-returns-in-Usual t c =
     let node = node_view c.args.node in
     let children = c.in-Pat-Plain.children in
     let kind : kind_of node ≡ Some (Kind.Pat (Pat.Plain children)) = search rules in
-    let rows : pat_edges_by_context node c.args.form (has_type_annotation node) (Pat.Plain children) ≡ edges_to_children type_part_edge_rules children.items
+    let rows : pat_edges_by_context node c.args.form (has_type_annotation node) (Pat.Plain children) ≡ edges_to_children type_part_edge_rules_by_child_kind
+    children.items
     ∷ [] =
     elim c.in-Usual.is [ inl form ↦ rw form refl | inr form ↦ rw form refl ] in
     on_ok_weaker c.visit_each.result (λ below. parts_and_below c.args.mode c.args.namespace node c.args.form children kind rows
@@ -200,10 +201,10 @@ visit_expr-returns-in-Member t c =
     let before = map namespaced_reference_view c.args.found.now.items in
     let closed : expr_edges c.args.refers c.args.expr.now ≡ edges_to_children default_edge_rules [] ∷ edges_to_children default_edge_rules []
     ∷ [] = rw (c.in-Member.is, c.if-refers.true) refl in
-    let nothing : dependencies_along_edges visit (edges_to_children default_edge_rules [] ∷ edges_to_children default_edge_rules [] ∷ []) ≡ [] =
+    let nothing : dependencies_of_visited_edges visit (edges_to_children default_edge_rules [] ∷ edges_to_children default_edge_rules [] ∷ []) ≡ [] =
     rw (no_children visit.mode visit.namespace (node_view visit.node) default_edge_rules) refl in
     sym (append-nil before)
-    ∙ ap (λ (ds : List NamespacedReference). before ++ ds) (sym (ap (λ (es : List FieldEdges). dependencies_along_edges visit es) closed ∙ nothing))
+    ∙ ap (λ (ds : List NamespacedReference). before ++ ds) (sym (ap (λ (es : List FieldEdges). dependencies_of_visited_edges visit es) closed ∙ nothing))
 
 pub visit_pat-visit_known-requires : goal.visit_pat-visit_known-requires
 visit_pat-visit_known-requires t c =

@@ -1,7 +1,7 @@
 use Rattle.std.proofs.Common.{◌≡◌, ◌++◌, ◌+◌, ◌-◌, ◌*◌, map, take, length}
 use Rattle.symbols_deps.specs.EdgeRules.{edges_to_children}
 use Rattle.symbols_nodes.specs.References.{namespaced_reference_view}
-use Rattle.symbols_deps.specs.inner.Visits.{dependencies_along_edge}
+use Rattle.symbols_deps.specs.inner.Visits.{dependencies_of_visited_edge}
 use Rattle.symbols_deps.proofs.visit.Visit.+walk.Given as goal
 
 abbrev pub decreases-visit_at : goal.decreases-visit_at
@@ -75,5 +75,5 @@ decreases-visit_item l = 16 * (length l.self.node.tree.now.nodes.items - l.self.
 
 abbrev pub invariant-visit_each-loop-id : goal.invariant-visit_each-loop-id
 invariant-visit_each-loop-id l =
-    map namespaced_reference_view l.found.items ≡ map namespaced_reference_view l.fn.found.items ++ dependencies_along_edge l.self
+    map namespaced_reference_view l.found.items ≡ map namespaced_reference_view l.fn.found.items ++ dependencies_of_visited_edge l.self
     (edges_to_children l.rules (take l.id-index l.ids))

@@ -3,8 +3,8 @@ use Rattle.symbols_ast.specs.declared.tree.kinds.Kind.{Kind}
 use Rattle.symbols_ast.specs.declared.tree.kinds.Expr.{Expr}
 use Rattle.symbols_ast.specs.NodeRefs.{node_view, kind_of}
 use Rattle.symbols_deps.specs.EdgeRules.{edges_to_children}
-use Rattle.symbols_deps.specs.inner.TableParts.{type_part_edge_rules}
-use Rattle.symbols_deps.specs.inner.Visits.{dependencies_along_edge}
+use Rattle.symbols_deps.specs.inner.TableParts.{type_part_edge_rules_by_child_kind}
+use Rattle.symbols_deps.specs.inner.Visits.{dependencies_of_visited_edge}
 use Rattle.symbols_deps.proofs.VisitLists.{at_name}
 use Rattle.symbols_deps.proofs.visit.Visit.only_name.Goals as goal
 
@@ -22,5 +22,5 @@ returns-in-Expr-Ident c =
     let first : c.index-parts-0.result ≡ get_or c.args.parts.now 0 c.index-parts-0.result = search rules in
     let alone = one_of c.args.parts.now c.index-parts-0.result one first in
     let reaches = rw c.type_part_edge_rules.ensures at c.in_ok-child.ensures.reaches in
-    ap (λ (parts : List ℕ). dependencies_along_edge visit (edges_to_children type_part_edge_rules parts)) alone
+    ap (λ (parts : List ℕ). dependencies_of_visited_edge visit (edges_to_children type_part_edge_rules_by_child_kind parts)) alone
     ∙ (reaches ∙ at_name visit.mode child.namespace (node_view child.node) child.form c.in-Expr-Ident.sym kind)

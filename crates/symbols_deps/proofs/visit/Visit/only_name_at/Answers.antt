@@ -6,7 +6,7 @@ use Rattle.symbols_ast.specs.NodeRefs.{node_view, kind_of}
 use Rattle.symbols_deps.specs.Annotations.{has_type_annotation}
 use Rattle.symbols_deps.specs.EdgeRules.{edges_to_children}
 use Rattle.symbols_deps.specs.EdgeTable.{pat_edges_by_context}
-use Rattle.symbols_deps.specs.inner.TableParts.{type_part_edge_rules}
+use Rattle.symbols_deps.specs.inner.TableParts.{type_part_edge_rules_by_child_kind}
 use Rattle.symbols_deps.proofs.VisitLists.{at_name, at_parts}
 use Rattle.symbols_deps.proofs.visit.Visit.only_name_at.Goals as goal
 
@@ -22,7 +22,8 @@ returns-in-Usual c =
     let node = node_view visit.node in
     let children = c.in-Pat-Plain.children in
     let kind : kind_of node ≡ Some (Kind.Pat (Pat.Plain children)) = search rules in
-    let rows : pat_edges_by_context node c.args.form (has_type_annotation node) (Pat.Plain children) ≡ edges_to_children type_part_edge_rules children.items
+    let rows : pat_edges_by_context node c.args.form (has_type_annotation node) (Pat.Plain children) ≡ edges_to_children type_part_edge_rules_by_child_kind
+    children.items
     ∷ [] =
     elim c.in-Usual.is [ inl form ↦ rw form refl | inr form ↦ rw form refl ] in
     rw (at_parts visit.mode visit.namespace node c.args.form children kind rows) (rw c.deref.ensures.value at c.only_name.ensures)

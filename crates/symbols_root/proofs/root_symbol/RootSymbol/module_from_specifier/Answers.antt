@@ -1,7 +1,7 @@
 use Rattle.std.proofs.Common.{◌≡◌, List, ℕ, Option, Some, true, rules, reverse, option_copied, sym, ap, subst, ◌∙◌}
 use Rattle.symbols_root.specs.Specifiers.{contains_specifier}
 use Rattle.symbols_root.specs.TypesChains.{is_analyzable, types_chain}
-use Rattle.symbols_root.specs.Roots.{with_stored_module, IsNeededAndNotStored, IsModuleWithinLimits}
+use Rattle.symbols_root.specs.Roots.{root_with_stored_module, IsNeededAndNotStored, IsModuleWithinLimits}
 use Rattle.symbols_root.specs.laws.Growing.{has_grown_refl}
 use Rattle.symbols_root.specs.laws.Specifiers.{found_element_satisfies_predicate, contains_specifier_at_index}
 use Rattle.symbols_root.specs.laws.TypesChains.{types_chain_is_unique}
@@ -15,7 +15,7 @@ returns-in-Some-clause-stored c =
     let root = c.args.self.now in
     let q = c.args.specifier.now in
     let old : contains_specifier root.stored q ≡ true = contains_specifier_at_index root.stored c.in-Some.module_id.0 q c.in-Some.ensures.at in
-    subst (λ (o : Option (List ℕ)). root ≡ with_stored_module root o) (sym c.in-Some.ensures.occurs) (with_old root q old)
+    subst (λ (o : Option (List ℕ)). root ≡ root_with_stored_module root o) (sym c.in-Some.ensures.occurs) (with_old root q old)
 
 pub returns-in-Some-clause-allowed : goal.returns-in-Some-clause-allowed
 returns-in-Some-clause-allowed c =

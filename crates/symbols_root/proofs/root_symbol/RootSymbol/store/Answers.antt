@@ -13,12 +13,12 @@ use Rattle.symbols_table.specs.Analysis.{IsAnalysisResult}
 use Rattle.symbols_table.specs.declared.info.module_info.ModuleInfo.{ModuleInfo}
 use Rattle.symbols_root.specs.Specifiers.{module_with_specifier, contains_specifier}
 use Rattle.symbols_root.specs.declared.limits.Limits.{Limits}
-use Rattle.symbols_root.specs.Roots.{RootView, widest_limits, with_stored_module, IsNeededAndNotStored, IsStoringFault}
+use Rattle.symbols_root.specs.Roots.{RootView, widest_limits, root_with_stored_module, IsNeededAndNotStored, IsStoringFault}
 use Rattle.symbols_root.specs.StoredModules.{StoredModule, stored_specifiers}
 use Rattle.symbols_root.specs.inner.StoredModules.{ResolvesToItself}
 use Rattle.symbols_root.specs.Growing.{HasGrown}
 use Rattle.symbols_root.specs.laws.Growing.{has_grown_refl, has_grown_by_stored_module}
-use Rattle.symbols_root.specs.laws.Specifiers.{on_err, laws, contains_specifier_at_index, same_bytes}
+use Rattle.symbols_root.specs.laws.Specifiers.{on_err_if_true, bytes_eq_is_equivalence, contains_specifier_at_index, equal_if_bytes_eq}
 use Rattle.symbols_root.proofs.Storing.{stored_is, index_stored, length-stored, stored_push, insert_last, get_last, whole_push}
 use Rattle.symbols_root.proofs.Storing.{with_old, with_new, none_missing, refused_analysis, table_under, last_retained}
 use Rattle.symbols_root.proofs.Enough.{room_within}
@@ -63,7 +63,7 @@ returns-then-eq-clause-gives c =
     let entry : StoredModule = (c.in-Some-get_index.stored_specifier.now, c.in-Some-get_index.field-0-1.now) in
     let at : slice_get c.self.inside.modules.entries (c.in-Some.last.0 + 1) ≡ Some entry =
     sym c.get_index.ensures.entry ∙ ap (option_map deref_pair) c.in-Some-get_index.is in
-    let same = same_bytes c.in-Some-get_index.stored_specifier.now.now c.specifier-specifier.result.now (sym c.eq.ensures ∙ c.if-eq.true) in
+    let same = equal_if_bytes_eq c.in-Some-get_index.stored_specifier.now.now c.specifier-specifier.result.now (sym c.eq.ensures ∙ c.if-eq.true) in
     subst (λ (r : RootView). slice_get r.stored (c.in-Some.last.0 + 1) ≡ Some c.args.graph_module.now.specifier) c.self.view_is
     (named_at c.self.inside.modules.entries (c.in-Some.last.0 + 1) entry at ∙ ap Some (same ∙ c.specifier-specifier.ensures))
 
@@ -131,7 +131,8 @@ invariant_of-self-2 c =
     let within : length (entries ++ (s, info) ∷ []) ≤ c.self.inside.limits.modules =
     omega (arith, length_push entries (s, info), count, c.if-count-modules.false) in
     let once : IsDistinct bytes_eq (stored_specifiers (entries ++ (s, info) ∷ [])) =
-    subst (IsDistinct bytes_eq) (sym (stored_push entries (s, info))) (IsDistinct-push laws (stored_specifiers entries) s.now c.self.invariant.2 new) in
+    subst (IsDistinct bytes_eq) (sym (stored_push entries (s, info)))
+    (IsDistinct-push bytes_eq_is_equivalence (stored_specifiers entries) s.now c.self.invariant.2 new) in
     let last = subst (λ (xs : List (List ℕ)). IfSome c.self.inside.last (λ l. ResolvesToItself c.self.inside.graph.now xs l.1 l.0.now))
     (sym (stored_push entries (s, info))) (last_retained c.self.inside.graph.now (stored_specifiers entries) s.now c.self.inside.last c.self.invariant.3) in
     rw pushed (all, within, once, last)
@@ -172,13 +173,13 @@ returns-clause-stored c =
       limits = c.self.inside.limits;
       stored = stored_specifiers
           c.insert.new.self.entries;
-    } ≡ with_stored_module before (Some q) = ap (λ xs. record before { stored = xs }) after ∙ with_new before q new in
+    } ≡ root_with_stored_module before (Some q) = ap (λ xs. record before { stored = xs }) after ∙ with_new before q new in
     subst (λ (r : RootView). record {
       graph = c.self.inside.graph.now;
       rules = c.self.inside.rules;
       limits = c.self.inside.limits;
       stored = stored_specifiers c.insert.new.self.entries;
-    } ≡ with_stored_module r (Some q)) c.self.view_is view
+    } ≡ root_with_stored_module r (Some q)) c.self.view_is view
 
 -- ---- the widest limits are enough
 
@@ -234,4 +235,4 @@ returns-in_err-insert-clause-unstored c =
     let q = c.args.graph_module.now.specifier in
     let new = stored_is c.self.inside.modules.entries c.specifier-specifier.result.now q false (sym c.get_index_of.ensures.found
     ∙ ap is_some c.in_default-get_index_of.is) c.specifier-specifier.ensures in
-    on_err c.from_residual.result (subst (λ (r : RootView). contains_specifier r.stored q ≡ false) c.self.view_is new)
+    on_err_if_true c.from_residual.result (subst (λ (r : RootView). contains_specifier r.stored q ≡ false) c.self.view_is new)

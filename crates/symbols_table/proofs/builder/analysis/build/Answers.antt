@@ -1,7 +1,7 @@
 use Rattle.std.proofs.Common.{◌≡◌, [], ◌∷◌, List, length, refl, sym, ap, ◌∙◌, subst, arith}
 use Rattle.std.specs.Global.{Vec}
 use Rattle.symbols_ast.specs.NodeRefs.{child_list_in_field}
-use Rattle.symbols_ast.specs.ChildFields.{body_of}
+use Rattle.symbols_ast.specs.ChildFields.{body_children_of}
 use Rattle.symbols_table.specs.declared.builder.table.ModuleBuilder.{ModuleBuilder}
 use Rattle.symbols_table.specs.declared.builder.table.Setting.{Setting}
 use Rattle.symbols_table.specs.declared.decl.symbol.Symbol.{Symbol}
@@ -41,7 +41,7 @@ with_room b symbols same is = record {
 pub walk_items-requires-clause-greater : goal.walk_items-requires-clause-greater
 walk_items-requires-clause-greater c =
     let root = program_node c.args.tree.now in
-    let greater : AreGreaterNodeNumbers root.tree.nodes.items 0 (child_list_in_field root body_of) =
+    let greater : AreGreaterNodeNumbers root.tree.nodes.items 0 (child_list_in_field root body_children_of) =
     list_greater root c.requires.well_formed (has_root root.tree.nodes.items c.requires.well_formed.begins) in
     subst (AreGreaterNodeNumbers root.tree.nodes.items 0) (sym c.body.ensures) greater
 

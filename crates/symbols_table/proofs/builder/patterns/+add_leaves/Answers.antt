@@ -3,7 +3,7 @@ use Rattle.std.specs.Prelude.{Contains}
 use Rattle.std.proofs.lemmas.List.{append-nil, take_all}
 use Rattle.symbols_ast.specs.NodeRefs.{node_view}
 use Rattle.symbols_ast.specs.WellFormed.{IsWellFormedTree}
-use Rattle.symbols_table.specs.Patterns.{pattern_bindings_within, pattern_parts}
+use Rattle.symbols_table.specs.Patterns.{pattern_bindings_within_levels, pattern_parts}
 use Rattle.symbols_table.proofs.Walks.{take_item}
 use Rattle.symbols_table.proofs.PatternLemmas.{is_found, is_missing, is_greater, parts_are_children}
 use Rattle.symbols_table.proofs.PatternLemmas.{leaves_at_name, leaves_at_parts, leaves_more, leaves_outside}
@@ -36,11 +36,11 @@ loop-part-preserved t c = λ levels enough.
       | in-Some+in_ok-add_leaves w ↦
           let found = is_found tree n (node_view w.in-Some.part) w.in-Some.ensures in
           let read = rw (found.same_tree, found.number_is) at (w.in_ok-add_leaves.ensures levels) in
-          leaves_more (pattern_bindings_within tree levels) (take i items) n c.args.leaves.now.items c.loop-part.leaves.items c.match-node.leaves.items
+          leaves_more (pattern_bindings_within_levels tree levels) (take i items) n c.args.leaves.now.items c.loop-part.leaves.items c.match-node.leaves.items
           (c.loop-part.invariant levels enough) (rw w.leaves-is (read (omega arith)))
       | in_default w ↦
           let none = leaves_outside tree levels n (is_missing tree n w.in_default.ensures) in
-          leaves_more (pattern_bindings_within tree levels) (take i items) n c.args.leaves.now.items c.loop-part.leaves.items c.match-node.leaves.items
+          leaves_more (pattern_bindings_within_levels tree levels) (take i items) n c.args.leaves.now.items c.loop-part.leaves.items c.match-node.leaves.items
           (c.loop-part.invariant levels enough) (rw (none, w.leaves-is) (sym (append-nil c.loop-part.leaves.items)))
     ])
 

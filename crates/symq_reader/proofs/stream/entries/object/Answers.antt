@@ -1,7 +1,7 @@
 use Rattle.std.proofs.Common.{◌≡◌, [], ◌∷◌, ◌++◌, true, Some, None, refl, ap, ◌∙◌, arith, rules}
 use Rattle.json.specs.Json.{read_key, member, no_members}
 use Rattle.json.specs.Value.{value_view, members_view}
-use Rattle.symq_reader.specs.inner.JsonData.{fits}
+use Rattle.symq_reader.specs.inner.JsonData.{json_has_whole_numbers}
 use Rattle.symq_reader.specs.inner.Streams.{members_joined}
 use Rattle.symq_reader.proofs.Entered.{members_read}
 use Rattle.symq_reader.proofs.ConsumedTokens.{took_none, took_all, took_member, member_fits, members_view-more}
@@ -20,7 +20,7 @@ members-preserved c =
     let j = value_view v in
     let r = c.read.new.reader in
     let named : read_key l.reader ≡ Some (Some k, s) = grind arith in
-    let fit : fits j ≡ true = search rules in
+    let fit : json_has_whole_numbers j ≡ true = search rules in
     let pushed : c.push.new.self.items ≡ l.found.items ++ (c.in-Some.name, v) ∷ [] = search rules in (
       members_joined done (member k j no_members),
       took_member 120 k c.args.reader.now l.reader s r done j l.invariant.1 named c.in_ok-value.ensures.ok,

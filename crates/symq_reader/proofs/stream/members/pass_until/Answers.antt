@@ -1,7 +1,7 @@
 use Rattle.std.proofs.Common.{◌≡◌, [], ◌∷◌, ◌++◌, true, Some, refl, sym, ap, ◌∙◌, arith, rules}
 use Rattle.json.specs.Json.{read_key, member, no_members}
 use Rattle.json.specs.Value.{value_view, members_view}
-use Rattle.symq_reader.specs.inner.JsonData.{fits}
+use Rattle.symq_reader.specs.inner.JsonData.{json_has_whole_numbers}
 use Rattle.symq_reader.specs.inner.Streams.{members_joined}
 use Rattle.symq_reader.proofs.ConsumedTokens.{took_none, took_member, member_fits, none_more, members_view-more, joined_more, joined-none}
 use Rattle.symq_reader.proofs.stream.members.pass_until.Goals as goal
@@ -20,7 +20,7 @@ members-preserved c =
     let r = c.read.new.reader in
     let named : read_key l.reader ≡ Some (Some k, s) = grind arith in
     let other : c.args.key.now ≡ k → ⊥ = search rules in
-    let fit : fits j ≡ true = search rules in
+    let fit : json_has_whole_numbers j ≡ true = search rules in
     let pushed : c.push.new.self.items ≡ l.retained.items ++ (c.in-Some.name, v) ∷ [] = search rules in (
       members_joined done (member k j no_members),
       took_member c.args.depth k c.args.reader.now l.reader s r done j l.invariant.1 named c.in_ok-value.ensures.ok,

@@ -3,7 +3,7 @@ use Rattle.std.proofs.lemmas.List.{take_all}
 use Rattle.symbols_ast.specs.declared.tree.kinds.Kind.{Kind}
 use Rattle.symbols_ast.specs.declared.tree.kinds.Decl.TheVariants as Decl
 use Rattle.symbols_ast.specs.NodeRefs.{node_view, child_in_field}
-use Rattle.symbols_ast.specs.ChildFields.{id_of, body_node_of}
+use Rattle.symbols_ast.specs.ChildFields.{id_child_of, body_child_of}
 use Rattle.symbols_ast.specs.Ids.{id_view}
 use Rattle.symbols_ast.specs.WellFormed.{IsWellFormedTree}
 use Rattle.symbols_table.specs.declared.builder.table.Setting.{Setting}
@@ -13,8 +13,8 @@ use Rattle.symbols_table.specs.DeclarationEvents.{is_exported, declare_and_add_e
 use Rattle.symbols_table.specs.EventsByHolderAndStart.{events_of_each, id_of_ident_child}
 use Rattle.symbols_table.specs.inner.Levels.{AreGreaterNodeNumbers}
 use Rattle.symbols_table.specs.Events.{effects_after_events, changes_of_effects}
-use Rattle.symbols_table.specs.TreeEvents.{namespace_name_part_events, namespace_body_events_of_kind, namespace_body_events_within, namespace_body_events}
-use Rattle.symbols_table.specs.TreeEvents.{item_events_within, item_list_events_within}
+use Rattle.symbols_table.specs.TreeEvents.{namespace_name_part_events, namespace_body_events_of_kind, namespace_body_events_within_levels}
+use Rattle.symbols_table.specs.TreeEvents.{namespace_body_events, item_events_within_levels, item_list_events_within_levels}
 use Rattle.symbols_table.specs.inner.Tables.{AppliesEffects, AppliesEventsUnderHolder}
 use Rattle.symbols_table.proofs.ModuleBuilderSteps.{keeps_same}
 use Rattle.symbols_table.proofs.Walks.{take_item, split_item, each_none, each_next, each_fault, none_read, on_none, on_reads}
@@ -43,7 +43,7 @@ walk_body-returns-in-Decl-TsModuleBlock-clause-table t c = λ levels parts enoug
     let found = is_found c.args.whole.tree.now c.args.n node c.in-Some.ensures in
     let kind : c.kind.result.now ≡ Kind.Decl (Decl.TsModuleBlock c.in-Decl-TsModuleBlock.body) = search rules in
     let read = rw (found.same_tree, c.deref.ensures.value) at (c.walk_items.ensures.table levels) in
-    body_reads c.walk_items.result c.args.self.now c.walk_items.new.self c.args.holder (item_list_events_within c.args.whole.tree.now levels) whole
+    body_reads c.walk_items.result c.args.self.now c.walk_items.new.self c.args.holder (item_list_events_within_levels c.args.whole.tree.now levels) whole
     c.args.ambient parts
     c.args.n node (Kind.Decl (Decl.TsModuleBlock c.in-Decl-TsModuleBlock.body)) found (c.kind.ensures ∙ ap (λ (k : Kind). Some k) kind) deep
     (λ left more. read (omega arith))
@@ -57,10 +57,10 @@ walk_body-returns-in_default-namespace_id-clause-table t c = λ levels parts eno
     let rest = c.in-Decl-TsNamespaceDecl.body in
     let kind : c.kind.result.now ≡ Kind.Decl (Decl.TsNamespaceDecl id rest) = search rules in
     let is = c.kind.ensures ∙ ap (λ (k : Kind). Some k) kind in
-    let block = item_list_events_within c.args.whole.tree.now levels in
+    let block = item_list_events_within_levels c.args.whole.tree.now levels in
     body_stays c.args.self.now c.args.holder block whole c.args.ambient parts c.args.n node (Kind.Decl (Decl.TsNamespaceDecl id rest)) found is deep
-    (λ left rows h before. on_none c.args.self.now rows (id_of_ident_child id_of node)
-    (namespace_name_part_events whole node (namespace_body_events_within block whole c.args.ambient left rest)) h
+    (λ left rows h before. on_none c.args.self.now rows (id_of_ident_child id_child_of node)
+    (namespace_name_part_events whole node (namespace_body_events_within_levels block whole c.args.ambient left rest)) h
     (length rows) (sym c.in_default-namespace_id.ensures) before)
 
 pub walk_body-returns-in_err-symbol-in-Decl-TsNamespaceDecl-clause-table : goal.walk_body-returns-in_err-symbol-in-Decl-TsNamespaceDecl-clause-table
@@ -72,14 +72,14 @@ walk_body-returns-in_err-symbol-in-Decl-TsNamespaceDecl-clause-table t c = λ le
     let rest = c.in-Decl-TsNamespaceDecl.body in
     let kind : c.kind.result.now ≡ Kind.Decl (Decl.TsNamespaceDecl id rest) = search rules in
     let is = c.kind.ensures ∙ ap (λ (k : Kind). Some k) kind in
-    let block = item_list_events_within c.args.whole.tree.now levels in
+    let block = item_list_events_within_levels c.args.whole.tree.now levels in
     let limit = c.args.self.now.setting.limit in
     body_reads c.from_residual.result c.args.self.now c.declare_part.new.self c.args.holder block whole c.args.ambient parts c.args.n node
     (Kind.Decl (Decl.TsNamespaceDecl id rest)) found is deep
     (λ left more rows h before at.
     let name = c.in-Some-namespace_id.id.now in
-    let inner = namespace_body_events_within block whole c.args.ambient left rest in
-    on_reads c.from_residual.result limit c.declare_part.new.self rows (id_of_ident_child id_of node) name (namespace_name_part_events whole node inner) h
+    let inner = namespace_body_events_within_levels block whole c.args.ambient left rest in
+    on_reads c.from_residual.result limit c.declare_part.new.self rows (id_of_ident_child id_child_of node) name (namespace_name_part_events whole node inner) h
     (length rows)
     (sym c.in-Some-namespace_id.ensures)
     (later_fault c.from_residual.result whole node name inner rows h limit c.declare_part.new.self c.in_err-symbol-in-Decl-TsNamespaceDecl.field-0.0
@@ -113,14 +113,14 @@ walk_body-returns-in_ok-symbol-in-Decl-TsNamespaceDecl-clause-table t c = λ lev
     let kind : c.kind.result.now ≡ Kind.Decl (Decl.TsNamespaceDecl id rest) = search rules in
     let is = c.kind.ensures ∙ ap (λ (k : Kind). Some k) kind in
     let greater = rw (found.same_tree, found.number_is) at (rest_greater node id rest formed c.in-Some.node.inside is) in
-    let block = item_list_events_within c.args.whole.tree.now levels in
+    let block = item_list_events_within_levels c.args.whole.tree.now levels in
     let limit = c.args.self.now.setting.limit in
     body_reads c.walk_body.result c.args.self.now c.walk_body.new.self c.args.holder block whole c.args.ambient parts c.args.n node
     (Kind.Decl (Decl.TsNamespaceDecl id rest)) found is deep
     (λ left more rows h before at.
     let name = c.in-Some-namespace_id.id.now in
-    let inner = namespace_body_events_within block whole c.args.ambient left rest in
-    on_reads c.walk_body.result limit c.walk_body.new.self rows (id_of_ident_child id_of node) name (namespace_name_part_events whole node inner) h
+    let inner = namespace_body_events_within_levels block whole c.args.ambient left rest in
+    on_reads c.walk_body.result limit c.walk_body.new.self rows (id_of_ident_child id_child_of node) name (namespace_name_part_events whole node inner) h
     (length rows)
     (sym c.in-Some-namespace_id.ensures)
     (later_read c.walk_body.result whole node name inner rows h c.in_ok-symbol-in-Decl-TsNamespaceDecl.symbol limit c.declare_part.new.self c.walk_body.new.self
@@ -134,10 +134,11 @@ walk_body-returns-in_default-kind t c = record {
   table = λ levels parts enough deep.
       let whole = node_view c.args.whole in
       let node = node_view c.in-Some.node in
-      let block = item_list_events_within c.args.whole.tree.now levels in
+      let block = item_list_events_within_levels c.args.whole.tree.now levels in
       let found = is_found c.args.whole.tree.now c.args.n node c.in-Some.ensures in
       body_stays c.args.self.now c.args.holder block whole c.args.ambient parts c.args.n node c.kind.result.now found c.kind.ensures deep
-      (λ left rows h is. let nothing : namespace_body_events_of_kind (namespace_body_events_within block whole c.args.ambient left) block whole c.args.ambient
+      (λ left rows h is. let nothing : namespace_body_events_of_kind (namespace_body_events_within_levels block whole c.args.ambient left) block whole
+      c.args.ambient
       node c.kind.result.now h (length
       rows) ≡ [] = search rules in rw nothing (none_read c.args.self.now rows is));
 }
@@ -148,10 +149,11 @@ walk_body-returns-in_default-kind-2 t c = record {
   table = λ levels parts enough deep.
       let whole = node_view c.args.whole in
       let node = node_view c.in-Some.node in
-      let block = item_list_events_within c.args.whole.tree.now levels in
+      let block = item_list_events_within_levels c.args.whole.tree.now levels in
       let found = is_found c.args.whole.tree.now c.args.n node c.in-Some.ensures in
       body_stays c.args.self.now c.args.holder block whole c.args.ambient parts c.args.n node c.kind.result.now found c.kind.ensures deep
-      (λ left rows h is. let nothing : namespace_body_events_of_kind (namespace_body_events_within block whole c.args.ambient left) block whole c.args.ambient
+      (λ left rows h is. let nothing : namespace_body_events_of_kind (namespace_body_events_within_levels block whole c.args.ambient left) block whole
+      c.args.ambient
       node c.kind.result.now h (length
       rows) ≡ [] = search rules in rw nothing (none_read c.args.self.now rows is));
 }
@@ -161,23 +163,24 @@ walk_body-returns-in_default-kind-2 t c = record {
 pub walk_inside-walk_body-requires : goal.walk_inside-walk_body-requires
 walk_inside-walk_body-requires t c =
     let whole = node_view c.args.whole in
-    let child = child_found whole (node_view c.in-Some.body) body_node_of c.requires.well_formed c.args.whole.inside bodies_are_children c.in-Some.ensures in
+    let child = child_found whole (node_view c.in-Some.body) body_child_of c.requires.well_formed c.args.whole.inside bodies_are_children c.in-Some.ensures in
     rw c.node_id.ensures (omega (arith, child.greater), (c.requires.well_formed, (child.inside, (c.requires.filled, c.requires.holder))))
 
 pub walk_inside-returns-in-Some-clause-table : goal.walk_inside-returns-in-Some-clause-table
 walk_inside-returns-in-Some-clause-table t c = λ levels enough rows h is at.
     let whole = node_view c.args.whole in
     let body = node_view c.in-Some.body in
-    let child = child_found whole body body_node_of c.requires.well_formed c.args.whole.inside bodies_are_children c.in-Some.ensures in
+    let child = child_found whole body body_child_of c.requires.well_formed c.args.whole.inside bodies_are_children c.in-Some.ensures in
     let read = rw c.node_id.ensures at (c.walk_body.ensures.table levels (length whole.tree.nodes.items)) in
-    on_reads c.walk_body.result c.args.self.now.setting.limit c.walk_body.new.self rows (child_in_field whole body_node_of) body
-    (namespace_body_events (item_list_events_within whole.tree levels) whole c.args.ambient) h (length rows) (sym c.in-Some.ensures)
+    on_reads c.walk_body.result c.args.self.now.setting.limit c.walk_body.new.self rows (child_in_field whole body_child_of) body
+    (namespace_body_events (item_list_events_within_levels whole.tree levels) whole c.args.ambient) h (length rows) (sym c.in-Some.ensures)
     (read (omega (arith, child.greater)) (omega arith) rows h is at)
 
 pub walk_inside-returns-in-None-clause-table : goal.walk_inside-returns-in-None-clause-table
 walk_inside-returns-in-None-clause-table t c = λ levels enough rows h is at.
     let whole = node_view c.args.whole in
-    on_none c.args.self.now rows (child_in_field whole body_node_of) (namespace_body_events (item_list_events_within whole.tree levels) whole c.args.ambient) h
+    on_none c.args.self.now rows (child_in_field whole body_child_of)
+    (namespace_body_events (item_list_events_within_levels whole.tree levels) whole c.args.ambient) h
     (length rows)
     (sym c.in-None.ensures) is
 
@@ -214,14 +217,15 @@ walk_item-returns-in-None-clause-table t c = λ levels enough.
     let node = node_view c.in-Some.node in
     let found = is_found tree c.args.n node c.in-Some.ensures in
     item_reads c.walk_other_item.result c.args.self.now c.walk_other_item.new.self c.args.holder tree c.args.scope levels c.args.n node found enough
-    (λ left more. other_reads c.walk_other_item.result c.args.self.now c.walk_other_item.new.self c.args.holder (item_list_events_within tree left) c.args.scope
+    (λ left more. other_reads c.walk_other_item.result c.args.self.now c.walk_other_item.new.self c.args.holder (item_list_events_within_levels tree left)
+    c.args.scope
     node
     c.in-None.ensures c.walk_other_item.ensures.table)
 
 -- ---- items
 
 pub walk_items-loop-n-init : goal.walk_items-loop-n-init
-walk_items-loop-n-init t c = λ levels enough. each_none _ (item_events_within c.args.parent.tree.now levels c.args.scope) _ c.requires.filled
+walk_items-loop-n-init t c = λ levels enough. each_none _ (item_events_within_levels c.args.parent.tree.now levels c.args.scope) _ c.requires.filled
 
 pub walk_items-walk_item-requires : goal.walk_items-walk_item-requires
 walk_items-walk_item-requires t c =
@@ -235,7 +239,7 @@ walk_items-walk_item-requires t c =
 pub walk_items-loop-n-preserved : goal.walk_items-loop-n-preserved
 walk_items-loop-n-preserved t c = λ levels enough.
     let n = c.n-item.result in
-    let walk = item_events_within c.args.parent.tree.now levels c.args.scope in
+    let walk = item_events_within_levels c.args.parent.tree.now levels c.args.scope in
     let greater = c.requires.greater c.loop-n.n-index n c.loop-n-test.true in
     rw (take_item c.args.items.now c.loop-n.n-index n c.loop-n-test.true c.n-item.is)
     (each_next walk (take c.loop-n.n-index c.args.items.now) (c.loop-n.invariant levels enough) c.walk_item.new.self n c.in_ok-walk_item.field-0
@@ -250,7 +254,7 @@ pub walk_items-returns-in_err-walk_item-clause-table : goal.walk_items-returns-i
 walk_items-returns-in_err-walk_item-clause-table t c = λ levels enough.
     let items = c.args.items.now in
     let n = c.n-item.result in
-    let walk = item_events_within c.args.parent.tree.now levels c.args.scope in
+    let walk = item_events_within_levels c.args.parent.tree.now levels c.args.scope in
     let greater = c.requires.greater c.loop-n.n-index n c.loop-n-test.true in
     let P : List ℕ → Type 0 = λ ms. AppliesEventsUnderHolder c.from_residual.result c.args.self.now c.walk_item.new.self (events_of_each walk ms) c.args.holder
     in
@@ -275,7 +279,7 @@ walk_items-returns-clause-table t c = λ levels enough.
 pub walk_namespace-returns-in_default-clause-table : goal.walk_namespace-returns-in_default-clause-table
 walk_namespace-returns-in_default-clause-table t c = λ levels enough rows h is at.
     let namespace = namespace_view c.args.namespace in
-    namespace_stays c.args.self.now rows h (item_list_events_within namespace.decl.tree levels) c.args.scope namespace c.kind-kind.result.now
+    namespace_stays c.args.self.now rows h (item_list_events_within_levels namespace.decl.tree levels) c.args.scope namespace c.kind-kind.result.now
     c.kind-kind.ensures
     (sym c.in_default.ensures) is
 
@@ -284,7 +288,7 @@ walk_namespace-returns-in_err-symbol-clause-table t c = λ levels enough rows h 
     let namespace = namespace_view c.args.namespace in
     let kind = c.kind-kind.result.now in
     let id = c.in-Some.id.now in
-    let block = item_list_events_within namespace.decl.tree levels in
+    let block = item_list_events_within_levels namespace.decl.tree levels in
     let limit = c.args.self.now.setting.limit in
     let r = c.from_residual.result in
     let inner = namespace_inner block c.args.scope namespace kind in
@@ -303,7 +307,7 @@ walk_namespace-returns-in_err-walk_inside-clause-table t c = λ levels enough ro
     let namespace = namespace_view c.args.namespace in
     let kind = c.kind-kind.result.now in
     let id = c.in-Some.id.now in
-    let block = item_list_events_within namespace.decl.tree levels in
+    let block = item_list_events_within_levels namespace.decl.tree levels in
     let limit = c.args.self.now.setting.limit in
     let r = c.from_residual-in_err-walk_inside.result in
     let inner = namespace_inner block c.args.scope namespace kind in
@@ -323,7 +327,7 @@ walk_namespace-returns-clause-table t c = λ levels enough rows h is at.
     let namespace = namespace_view c.args.namespace in
     let kind = c.kind-kind.result.now in
     let id = c.in-Some.id.now in
-    let block = item_list_events_within namespace.decl.tree levels in
+    let block = item_list_events_within_levels namespace.decl.tree levels in
     let limit = c.args.self.now.setting.limit in
     let r = c.add_to_holder.result in
     let inner = namespace_inner block c.args.scope namespace kind in

@@ -1,6 +1,6 @@
 use Rattle.std.proofs.Common.{ℕ, suc, ◌+◌, ◌-◌, ◌*◌, ◌≤◌, length, take}
 use Rattle.symbols_table.specs.EventsByHolderAndStart.{events_of_each}
-use Rattle.symbols_table.specs.TreeEvents.{item_events_within}
+use Rattle.symbols_table.specs.TreeEvents.{item_events_within_levels}
 use Rattle.symbols_table.proofs.Walks.{IsWalked}
 use Rattle.symbols_table.proofs.builder.table.ModuleBuilder.+walk.Given as goal
 
@@ -22,4 +22,4 @@ decreases-walk_items l = 4 * (length l.parent.tree.now.nodes.items - l.parent.nu
 abbrev pub invariant-walk_items-loop-n : goal.invariant-walk_items-loop-n
 invariant-walk_items-loop-n l =
     (levels : ℕ) → length l.parent.tree.now.nodes.items ≤ l.parent.number + suc levels
-    → IsWalked l.fn.self l.self (events_of_each (item_events_within l.parent.tree.now levels l.scope) (take l.n-index l.items)) l.holder
+    → IsWalked l.fn.self l.self (events_of_each (item_events_within_levels l.parent.tree.now levels l.scope) (take l.n-index l.items)) l.holder

@@ -4,7 +4,7 @@ use Rattle.std.specs.Cow.{cow_str_bytes}
 use Rattle.std.proofs.lemmas.Result.{on_ok_weaker}
 use Rattle.symbols_ast.specs.declared.ids.SymbolId.{SymbolId}
 use Rattle.symbols_table.specs.TableViews.{SymbolMapsView}
-use Rattle.symbols_table.specs.Changes.{local_name}
+use Rattle.symbols_table.specs.Changes.{local_name_after_changes}
 use Rattle.symbols_table.specs.inner.Tables.{symbol_by_local_name}
 use Rattle.symbols_table.proofs.LocalNames.{name_is, inner_entry}
 use Rattle.symbols_table.proofs.OneChange.{only_child}
@@ -15,7 +15,7 @@ returns-clause-table c = on_ok_weaker c.add_name.result
     (λ found changes is.
     let borrowed_symbol = c.index_mut-borrowed_symbol.result.now in
     let local_name_bytes = option_map cow_str_bytes c.in_ok-name.name in
-    let called : 0 < c.args.holder.0 → local_name_bytes ≡ local_name changes c.args.symbol =
+    let called : 0 < c.args.holder.0 → local_name_bytes ≡ local_name_after_changes changes c.args.symbol =
     λ below. c.in_ok-name.ensures.inner below ∙ name_is c.args.self.now changes c.args.symbol borrowed_symbol c.requires.symbol is in
     only_child {old = borrowed_symbol} (record {
       below = c.requires.holder;

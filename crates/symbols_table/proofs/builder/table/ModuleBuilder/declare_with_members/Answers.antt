@@ -5,7 +5,7 @@ use Rattle.symbols_ast.specs.NodeRefs.{node_view}
 use Rattle.symbols_table.specs.declared.builder.table.Setting.{Setting}
 use Rattle.symbols_table.specs.DeclViews.{decl_view}
 use Rattle.symbols_table.specs.Events.{declare_effect, effect_of_event, changes_of_effects, symbol_of_event_at, effects_after_events, declare}
-use Rattle.symbols_table.specs.MemberEvents.{member_events_at, member_nodes}
+use Rattle.symbols_table.specs.MemberEvents.{member_events_at, class_or_interface_member_numbers}
 use Rattle.symbols_table.specs.DeclarationEvents.{child_and_export_events}
 use Rattle.symbols_table.specs.inner.Tables.{AppliesEffects, AppliesEventsUnderHolder}
 use Rattle.symbols_table.specs.EventsByHolderAndStart.{events_of_each}
@@ -20,7 +20,7 @@ returns-in_err-symbol-clause-table c = λ rows h is at.
     let event = declare h id decl in
     let row = declare_effect (changes_of_effects rows) c.args.holder id decl in
     let reads : effect_of_event (changes_of_effects rows) (symbol_of_event_at rows) event ≡ row = rw at refl in
-    let walk = events_of_each (member_events_at c.args.node.tree.now) (member_nodes (node_view c.args.node)) in
+    let walk = events_of_each (member_events_at c.args.node.tree.now) (class_or_interface_member_numbers (node_view c.args.node)) in
     let inner = walk (length rows) (length rows + 1) in
     err_all _ _ _ rows event row (inner ++ child_and_export_events c.args.is_exported h id.name (length rows)) c.in_err-symbol.field-0.0 reads
     c.from_residual.ensures.1
@@ -33,7 +33,7 @@ returns-in_err-walk_members-clause-table c = λ rows h is at.
     let event = declare h id decl in
     let row = declare_effect (changes_of_effects rows) c.args.holder id decl in
     let reads : effect_of_event (changes_of_effects rows) (symbol_of_event_at rows) event ≡ row = rw at refl in
-    let walk = events_of_each (member_events_at c.args.node.tree.now) (member_nodes (node_view c.args.node)) in
+    let walk = events_of_each (member_events_at c.args.node.tree.now) (class_or_interface_member_numbers (node_view c.args.node)) in
     let inner = walk (length rows) (length rows + 1) in
     let read = c.in_ok-symbol.ensures.table (changes_of_effects rows) is in
     let P : List ℕ → Type 0 = λ ms. AppliesEventsUnderHolder {A = Unit {0}} (Err c.in_err-walk_members.field-0.0) c.declare.new.self c.walk_members.new.self
@@ -52,7 +52,7 @@ returns-clause-table c = λ rows h is at.
     let event = declare h id decl in
     let row = declare_effect (changes_of_effects rows) c.args.holder id decl in
     let reads : effect_of_event (changes_of_effects rows) (symbol_of_event_at rows) event ≡ row = rw at refl in
-    let walk = events_of_each (member_events_at c.args.node.tree.now) (member_nodes (node_view c.args.node)) in
+    let walk = events_of_each (member_events_at c.args.node.tree.now) (class_or_interface_member_numbers (node_view c.args.node)) in
     let inner = walk (length rows) (length rows + 1) in
     let read = c.in_ok-symbol.ensures.table (changes_of_effects rows) is in
     let P : List ℕ → Type 0 = λ ms. AppliesEventsUnderHolder (Ok c.in_ok-walk_members.field-0) c.declare.new.self c.walk_members.new.self (events_of_each

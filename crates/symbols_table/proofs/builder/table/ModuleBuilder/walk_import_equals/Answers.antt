@@ -3,12 +3,12 @@ use Rattle.std.specs.Prelude.{string_bytes}
 use Rattle.std.specs.Option.{option_map}
 use Rattle.symbols_ast.specs.Ids.{id_view}
 use Rattle.symbols_ast.specs.NodeRefs.{node_view}
-use Rattle.symbols_ast.specs.ChildFields.{id_of}
+use Rattle.symbols_ast.specs.ChildFields.{id_child_of}
 use Rattle.symbols_table.specs.declared.builder.table.Setting.{Setting}
 use Rattle.symbols_table.specs.DeclViews.{decl_view, decl_kind_view}
 use Rattle.symbols_table.specs.DeclarationEvents.{export_event_if}
-use Rattle.symbols_table.specs.Events.{DeclarationEvent, declare_alias, declare_alias_effect, effect_of_event, changes_of_effects, symbol_of_event_at}
-use Rattle.symbols_table.specs.Events.{effects_after_events}
+use Rattle.symbols_table.specs.Events.{DeclarationEvent, declare_alias, declare_alias_unless_bound_effect, effect_of_event, changes_of_effects}
+use Rattle.symbols_table.specs.Events.{symbol_of_event_at, effects_after_events}
 use Rattle.symbols_table.specs.ModuleEvents.{import_equals_decl_kind}
 use Rattle.symbols_table.specs.inner.Tables.{AppliesEffects}
 use Rattle.symbols_table.specs.EventsByHolderAndStart.{id_of_ident_child}
@@ -19,21 +19,21 @@ use Rattle.symbols_table.proofs.builder.table.ModuleBuilder.walk_import_equals.G
 
 pub returns-in_default-clause-table : goal.returns-in_default-clause-table
 returns-in_default-clause-table c = λ rows h is at.
-    let unnamed : id_of_ident_child id_of (node_view c.args.node) ≡ None = rw (sym c.in_default.ensures) refl in
-    on_none _ rows (id_of_ident_child id_of (node_view c.args.node)) _ _ _ unnamed is
+    let unnamed : id_of_ident_child id_child_of (node_view c.args.node) ≡ None = rw (sym c.in_default.ensures) refl in
+    on_none _ rows (id_of_ident_child id_child_of (node_view c.args.node)) _ _ _ unnamed is
 
 pub returns-in_default-sym-clause-table : goal.returns-in_default-sym-clause-table
 returns-in_default-sym-clause-table c = λ rows h is at.
-    let unnamed : id_of_ident_child id_of (node_view c.args.node) ≡ None = rw (sym c.in-Some.ensures) (sym c.in_default-sym.ensures) in
-    on_none _ rows (id_of_ident_child id_of (node_view c.args.node)) _ _ _ unnamed is
+    let unnamed : id_of_ident_child id_child_of (node_view c.args.node) ≡ None = rw (sym c.in-Some.ensures) (sym c.in_default-sym.ensures) in
+    on_none _ rows (id_of_ident_child id_child_of (node_view c.args.node)) _ _ _ unnamed is
 
 pub returns-in_default-2-clause-table : goal.returns-in_default-2-clause-table
 returns-in_default-2-clause-table c = λ rows h is at.
     let node = node_view c.args.node in
-    let is_named : id_of_ident_child id_of node ≡ Some c.in-Some-sym.id.now = rw (sym c.in-Some.ensures) (sym c.in-Some-sym.ensures) in
+    let is_named : id_of_ident_child id_child_of node ≡ Some c.in-Some-sym.id.now = rw (sym c.in-Some.ensures) (sym c.in-Some-sym.ensures) in
     let other : import_equals_decl_kind node c.args.entity c.args.external.now ≡ None =
     sym c.in_ok-kind.ensures ∙ ap (λ kind. option_map decl_kind_view kind) c.in_default-2.is in
-    no_events _ rows _ (on_thing (id_of_ident_child id_of node) c.in-Some-sym.id.now _ h (length rows) is_named
+    no_events _ rows _ (on_thing (id_of_ident_child id_child_of node) c.in-Some-sym.id.now _ h (length rows) is_named
     ∙ on_nothing (import_equals_decl_kind node c.args.entity c.args.external.now) _ h _ other) is
 
 pub returns-clause-table : goal.returns-clause-table
@@ -42,8 +42,8 @@ returns-clause-table c = λ rows h is at.
     let id = c.in-Some-sym.id.now in
     let kind = decl_kind_view c.in-Some-2.kind in
     let decl = decl_view c.new.result in
-    let row = declare_alias_effect (changes_of_effects rows) c.args.holder (id_view id) decl in
-    let is_named : id_of_ident_child id_of node ≡ Some id = rw (sym c.in-Some.ensures) (sym c.in-Some-sym.ensures) in
+    let row = declare_alias_unless_bound_effect (changes_of_effects rows) c.args.holder (id_view id) decl in
+    let is_named : id_of_ident_child id_child_of node ≡ Some id = rw (sym c.in-Some.ensures) (sym c.in-Some-sym.ensures) in
     let is_kind : import_equals_decl_kind node c.args.entity c.args.external.now ≡ Some kind =
     sym c.in_ok-kind.ensures ∙ ap (λ k. option_map decl_kind_view k) c.in-Some-2.is in
     let last = export_event_if c.args.is_export h (string_bytes id.name) (length rows) in
@@ -66,8 +66,8 @@ returns-in_err-symbol-clause-table c = λ rows h is at.
     let id = c.in-Some-sym.id.now in
     let kind = decl_kind_view c.in-Some-2.kind in
     let decl = decl_view c.new.result in
-    let row = declare_alias_effect (changes_of_effects rows) c.args.holder (id_view id) decl in
-    let is_named : id_of_ident_child id_of node ≡ Some id = rw (sym c.in-Some.ensures) (sym c.in-Some-sym.ensures) in
+    let row = declare_alias_unless_bound_effect (changes_of_effects rows) c.args.holder (id_view id) decl in
+    let is_named : id_of_ident_child id_child_of node ≡ Some id = rw (sym c.in-Some.ensures) (sym c.in-Some-sym.ensures) in
     let is_kind : import_equals_decl_kind node c.args.entity c.args.external.now ≡ Some kind =
     sym c.in_ok-kind.ensures ∙ ap (λ k. option_map decl_kind_view k) c.in-Some-2.is in
     let reads : effect_of_event (changes_of_effects rows) (symbol_of_event_at rows) (declare_alias h (id_view id) decl) ≡ row = rw at refl in

@@ -2,7 +2,7 @@ use Rattle.std.proofs.Common.{◌≡◌, Some, None, ◌∷◌, [], length, refl
 use Rattle.std.specs.Option.{option_and_then}
 use Rattle.symbols_ast.specs.Ids.{id_view}
 use Rattle.symbols_ast.specs.NodeRefs.{node_view, kind_of, node_in}
-use Rattle.symbols_ast.specs.ChildFields.{local_of}
+use Rattle.symbols_ast.specs.ChildFields.{local_child_of}
 use Rattle.symbols_table.specs.DeclViews.{decl_view, file_dep_name_view}
 use Rattle.symbols_table.specs.Events.{declare, declare_effect, effect_of_event, changes_of_effects, symbol_of_event_at}
 use Rattle.symbols_table.specs.EventsByHolderAndStart.{id_of_ident_child}
@@ -17,14 +17,14 @@ returns-in_default-clause-table c = λ rows h is at. on_none _ rows (node_in c.a
 pub returns-in_default-local-clause-table : goal.returns-in_default-local-clause-table
 returns-in_default-local-clause-table c = λ rows h is at.
     let node = node_view c.in-Some.node in
-    let unnamed : id_of_ident_child local_of node ≡ None = rw (sym c.in_default-local.ensures) refl in
+    let unnamed : id_of_ident_child local_child_of node ≡ None = rw (sym c.in_default-local.ensures) refl in
     no_events _ rows _ (import_found _ c.args.import.tree.now c.args.n node h _ (sym c.in-Some.ensures)
     ∙ import_unnamed c.args.src.now node h (length rows) unnamed) is
 
 pub returns-in_default-sym-clause-table : goal.returns-in_default-sym-clause-table
 returns-in_default-sym-clause-table c = λ rows h is at.
     let node = node_view c.in-Some.node in
-    let unnamed : id_of_ident_child local_of node ≡ None = rw (sym c.in-Some-local.ensures) (sym c.in_default-sym.ensures) in
+    let unnamed : id_of_ident_child local_child_of node ≡ None = rw (sym c.in-Some-local.ensures) (sym c.in_default-sym.ensures) in
     no_events _ rows _ (import_found _ c.args.import.tree.now c.args.n node h _ (sym c.in-Some.ensures)
     ∙ import_unnamed c.args.src.now node h (length rows) unnamed) is
 
@@ -32,7 +32,7 @@ pub returns-in_default-import_dep_name-clause-table : goal.returns-in_default-im
 returns-in_default-import_dep_name-clause-table c = λ rows h is at.
     let node = node_view c.in-Some.node in
     let id = c.in-Some-sym.id.now in
-    let is_named : id_of_ident_child local_of node ≡ Some id = rw (sym c.in-Some-local.ensures) (sym c.in-Some-sym.ensures) in
+    let is_named : id_of_ident_child local_child_of node ≡ Some id = rw (sym c.in-Some-local.ensures) (sym c.in-Some-sym.ensures) in
     let other : option_and_then (import_dep_name id) (kind_of node) ≡ None = sym c.in_default-import_dep_name.ensures in
     no_events _ rows _ (import_found _ c.args.import.tree.now c.args.n node h _ (sym c.in-Some.ensures)
     ∙ import_named c.args.src.now node id h (length rows) is_named ∙ on_nothing (option_and_then (import_dep_name id) (kind_of node)) _ h _ other) is
@@ -44,7 +44,7 @@ returns-clause-table c = λ rows h is at.
     let name = file_dep_name_view c.in-Some-import_dep_name.name in
     let decl = decl_view c.new.result in
     let row = declare_effect (changes_of_effects rows) c.args.holder (id_view id) decl in
-    let is_named : id_of_ident_child local_of node ≡ Some id = rw (sym c.in-Some-local.ensures) (sym c.in-Some-sym.ensures) in
+    let is_named : id_of_ident_child local_child_of node ≡ Some id = rw (sym c.in-Some-local.ensures) (sym c.in-Some-sym.ensures) in
     let reads : effect_of_event (changes_of_effects rows) (symbol_of_event_at rows) (declare h (id_view id) decl) ≡ row = rw at refl in
     let events : import_specifier_events_at c.args.src.now c.args.import.tree.now c.args.n h (length rows) ≡ declare h (id_view id) decl ∷ [] =
     import_one c.args.src.now c.args.import.tree.now c.args.n node id name _ c.range.result decl h (length rows) (sym c.in-Some.ensures) is_named
@@ -59,7 +59,7 @@ returns-in_err-declare-clause-table c = λ rows h is at.
     let name = file_dep_name_view c.in-Some-import_dep_name.name in
     let decl = decl_view c.new.result in
     let row = declare_effect (changes_of_effects rows) c.args.holder (id_view id) decl in
-    let is_named : id_of_ident_child local_of node ≡ Some id = rw (sym c.in-Some-local.ensures) (sym c.in-Some-sym.ensures) in
+    let is_named : id_of_ident_child local_child_of node ≡ Some id = rw (sym c.in-Some-local.ensures) (sym c.in-Some-sym.ensures) in
     let reads : effect_of_event (changes_of_effects rows) (symbol_of_event_at rows) (declare h (id_view id) decl) ≡ row = rw at refl in
     let events : import_specifier_events_at c.args.src.now c.args.import.tree.now c.args.n h (length rows) ≡ declare h (id_view id) decl ∷ [] =
     import_one c.args.src.now c.args.import.tree.now c.args.n node id name _ c.range.result decl h (length rows) (sym c.in-Some.ensures) is_named
