@@ -108,6 +108,12 @@ test('packages: types, typings, module, main, index, in this order', () => {
   assert.equal(at({}, 'index.d.ts', 'index.js'), 'node_modules/p/index.d.ts');
 });
 
+test('packages: `exports` of null are none, so what stands beside them goes before the package of its types', () => {
+  const at = (/** @type {unknown} */ exports) => (
+    resolved({ ...installed({ exports, types: 't.d.ts' }, 't.d.ts'), 'node_modules/@types/p/index.d.ts': '' }, 'src/a.ts', 'p'));
+  assert.deepEqual([at(null), at({ './x': './t.d.ts' })], ['node_modules/p/t.d.ts', 'node_modules/@types/p/index.d.ts']);
+});
+
 test('packages: exports, by conditions in their order', () => {
   const at = (/** @type {any} */ exports, /** @type {string} */ text, /** @type {string[]} */ ...files) => resolved(installed({ exports, types: 'old.d.ts' }, 'old.d.ts', ...files), 'src/a.ts', text);
   assert.equal(at({ '.': { types: './t.d.ts', default: './d.js' } }, 'p', 't.d.ts', 'd.js'), 'node_modules/p/t.d.ts');
