@@ -379,6 +379,20 @@ test('a comment isn\'t parsed for its tags, wherever it begins a line, and so ma
   }
 });
 
+test('an empty comment is none of tags, and neither is what looks like one within a line', () => {
+  for (const text of ['/**/ import "./a"; let b = 1; /* */\n', 'import "./a"; /**/\n']) {
+    const { fault, references } = nodesOf('a.ts', text, { ...languageOf('a.ts'), ...PLAIN });
+    assert.deepEqual([fault, references.map((it) => it.text)], [null, ['./a']], text);
+  }
+  const { references } = nodesOf('a.ts', 'import "./**a";\n/** */ import "/** b";\n', { ...languageOf('a.ts'), ...PLAIN });
+  assert.deepEqual(references.map((it) => it.text), ['./**a', '/** b']);
+});
+
+test('names of another module have the scope of those that nothing declares', () => {
+  const list = nodes('type A = import("./b").C; type D = import("./b").E.F; type G = H;');
+  assert.deepEqual([...scopes(list, 'C'), ...scopes(list, 'E')], [...scopes(list, 'H'), ...scopes(list, 'H')]);
+});
+
 test('imports and exports of types alone say so', () => {
   const marked = (/** @type {string} */ text) => nodes(text).filter((it) => it.type_only === true).map((it) => `${it.kind} ${it.range.join('-')}`);
   assert.deepEqual(marked('import type { a } from "a"; import { type b, c } from "b"; import type d from "d"; import type * as e from "e";'),
