@@ -115,6 +115,17 @@ test('directories come, move and go; a package is installed above', async () => 
   });
 });
 
+test('a file stands where a directory is looked for, and goes', async () => {
+  const top = folderOf({ 'dir/index.ts': 'export * from "../far/sub/a";\n', far: '' });
+  await watched(['api', path.join(top, 'dir')], async (watching) => {
+    writer(top)('dir/index.ts', 'export * from "../far/sub/a";\nexport const b = 1;\n');
+    await watching.settled(1);
+    rmSync(path.join(top, 'far'));
+    writer(top)('far/sub/a.ts', 'export const a = 1;\n');
+    await watching.settled();
+  });
+});
+
 test('options of the directory and its entries change; what fails is told, and mended', async () => {
   const folder = folderOf({ 'index.ts': 'export * from "./a";\nexport * from "./b";\n', 'a.ts': 'export const n = 1;\n', 'b.ts': 'export const n = 1;\n' });
   const write = writer(folder);
