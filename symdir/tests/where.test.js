@@ -78,6 +78,18 @@ test('members that may be there aren\'t told as lacking: of JSON, a const, an en
   }
 });
 
+test('each name behind `import("x")` is one of that module, and none of the module that it stands in', () => {
+  const folder = folderOf({
+    'a.ts': 'type T = import("./b").Y.Z;\ntype U = typeof import("./b").Y.c;\ntype V = import("./b").Y.none;\n'
+      + 'namespace Y { export interface Z {}\nexport const c = 1; export const none = 1; }\n',
+    'b.ts': 'export namespace Y {\n  export type Z = 1;\n  export const c = 1;\n}\n' });
+  const wayOf = (/** @type {any} */ it) => (it.defined ? `${it.defined.file}:${it.defined.line}` : it.unresolved.what);
+  const at = (/** @type {string} */ place, /** @type {string} */ name) => answer(['where', folder, place, name])
+    .flatMap((/** @type {any} */ it) => it.ways.map((/** @type {any} */ way) => `${it.at.column} ${wayOf(way)}`));
+  assert.deepEqual([at('a.ts:1', 'Y'), at('a.ts:1', 'Y.Z'), at('a.ts:2', 'Y'), at('a.ts:2', 'Y.c'), at('a.ts:3', 'Y.none')],
+    [['24 b.ts:1'], ['26 b.ts:2'], ['31 b.ts:1'], ['33 b.ts:3'], ['26 name']]);
+});
+
 test('what people read', () => {
   const { status, stdout } = symdir(['where', folderOf(FILES), 'index.ts:4', 'S']);
   assert.equal(status, 0);

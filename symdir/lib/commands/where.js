@@ -43,14 +43,26 @@ export function moduleOf(folder, file) {
  * @property {number} [from] where the statement stands that makes it stand for a whole module
  */
 
+/** @param {TreeNode[]} nodes @returns {Map<TreeNode, string>} the names behind `import("x")` in types, with the text between its quotes */
+function namesOfImportTypes(nodes) {
+  const found = new Map();
+  for (const { kind, fields: { arg, qualifier } } of nodes) {
+    if (kind !== 'TsImportType') continue;
+    for (let at = /** @type {TreeNode | null} */ (qualifier); at; at = /** @type {TreeNode | null} */ (at.fields.left ?? null)) found.set(at, arg);
+  }
+  return found;
+}
+
 /** @param {TreeNode[]} nodes @returns {Hit[]} each name that is a variable or a type, and each dotted name */
 export function namesIn(nodes) {
   /** @type {Hit[]} */
   const hits = [];
   /** @type {Map<TreeNode, { base: TreeNode, parts: string[] } | null>} */
   const dotted = new Map();
+  const imported = namesOfImportTypes(nodes);
   for (const node of nodes) {
-    if (node.kind === 'Ident' || node.kind === 'BindingIdent') {
+    const text = imported.get(node);
+    if (text === undefined && (node.kind === 'Ident' || node.kind === 'BindingIdent')) {
       const [name, scope] = /** @type {[string, number]} */ (node.fields.sym);
       hits.push({ start: node.start, end: node.start + Buffer.byteLength(name), name, reference: ['id', name, scope] });
     }
@@ -59,7 +71,7 @@ export function namesIn(nodes) {
     const [name, scope] = /** @type {[string, number]} */ (whole.base.fields.sym);
     const last = /** @type {string} */ (whole.parts[whole.parts.length - 1]);
     hits.push({ start: node.end - Buffer.byteLength(last), end: node.end, name: [name, ...whole.parts].join('.'),
-      reference: ['qualified', name, scope, whole.parts] });
+      reference: text === undefined ? ['qualified', name, scope, whole.parts] : ['import', text, [name, ...whole.parts]] });
   }
   return hits;
 }
