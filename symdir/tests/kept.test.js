@@ -142,7 +142,7 @@ test('what is made of TypeScript is kept by its version and its file: its path, 
 test('trees that another version of what makes them has kept aren\'t taken', () => {
   const [alone, folder, env] = [folderOf({}), folderOf({ 'a.ts': 'export const a = 1;\n' }), { XDG_CACHE_HOME: folderOf({}) }];
   for (const it of ['bin', 'lib', 'package.json']) cpSync(path.join(path.dirname(BIN), '..', it), path.join(alone, it), { recursive: true });
-  ['', 'tree/types.js', 'folder/parse.js', 'folder/graph.js'].forEach((it, i) => {
+  ['', 'tree/types.js', 'folder/parse.js', 'folder/graph.js', 'folder/text.js', 'kinds.js', 'language.js', 'wellformed.js'].forEach((it, i) => {
     if (it) appendFileSync(path.join(alone, 'lib', it), '// one more line\n');
     const words = [path.join(alone, 'bin', 'symdir.js'), 'graph', folder, '-o', path.join(alone, 'graph.json')];
     assert.equal(spawnSync(process.execPath, words, { env: { ...process.env, ...env } }).status, 0);

@@ -56,7 +56,8 @@ export function madeOf({ file, version }) {
 /** @returns {string} changes with what makes of a text what is kept */
 function maker() {
   const folder = fileURLToPath(new URL('../tree/', import.meta.url));
-  const beside = ['parse.js', 'graph.js'].map((it) => fileURLToPath(new URL(it, import.meta.url)));
+  const names = ['parse.js', 'graph.js', 'text.js', '../kinds.js', '../language.js', '../wellformed.js'];
+  const beside = names.map((it) => fileURLToPath(new URL(it, import.meta.url)));
   const files = [...readdirSync(folder).sort().map((it) => path.join(folder, it)), ...beside];
   return hashOf(files.map((it) => readFileSync(it, 'utf8')).join(''));
 }
