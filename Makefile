@@ -45,6 +45,7 @@ test: setup
 wrong: setup
 	@cd crates/symq_core && rt check > /dev/null
 	@python3 tools/wrong_bodies.py --base --record
+	@python3 tools/test_wrong_bodies.py --record
 
 packages:
 	@python3 tools/run_symdir.py --packages

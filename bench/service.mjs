@@ -1,15 +1,19 @@
 // What commands.mjs times beside the commands of symdir: TypeScript's language service and checker, doing the same by the searches that
 // the tests of symdir hold the commands to. node bench/service.mjs COMMAND FOLDER JSON prints how much it found.
+import { existsSync, readFileSync } from 'node:fs';
+import { isBuiltin } from 'node:module';
 import path from 'node:path';
 
+import { TEST } from '../symdir/lib/folder/entries.js';
 import { Files } from '../symdir/lib/folder/files.js';
-import { isJavaScript } from '../symdir/lib/language.js';
+import { isCode, isJavaScript } from '../symdir/lib/language.js';
 import { syntaxOf, targetOf, webBy } from '../symdir/tests/definitions.js';
 import { Language, forEachNode, ts } from '../symdir/tests/language.js';
 import { leaksBy } from '../symdir/tests/leaking.js';
 import { edgesBy, referencesTo, surfaceBy, unusedBy } from '../symdir/tests/wanted.js';
 
 /** @typedef {import('./commands.mjs').Asked} Asked */
+/** @typedef {import('typescript').SourceFile} SourceFile */
 
 const [command, folder, asked] = process.argv.slice(2);
 /** @type {Asked} */
@@ -22,7 +26,7 @@ function open(at) {
   return new Language(at, names, { allowJs: false, skipLibCheck: true, baseUrl: path.dirname(at), paths: { '*': ['*', path.join(path.dirname(folder), '*')] } });
 }
 
-/** @param {Language} language @returns {import('typescript').SourceFile[]} */
+/** @param {Language} language @returns {SourceFile[]} */
 function entriesOf(language) {
   return language.sources().filter((it) => entries.includes(language.short(it.fileName)));
 }
@@ -48,20 +52,56 @@ function describedBy(language) {
   return items.size > 0 ? namesBy(language).length : 0;
 }
 
-/** @param {Language} language @returns {number} how many files have a syntax error, how many imports resolve to no module, and how many imported names to nothing */
+/** @param {string} at a directory @param {string} name of a package @returns {boolean} whether a package.json there or above it, as far as the directory of the run, names it */
+function isNamed(at, name) {
+  const file = path.join(at, 'package.json');
+  const json = existsSync(file) ? JSON.parse(readFileSync(file, 'utf8')) : {};
+  const isThere = ['dependencies', 'devDependencies', 'peerDependencies', 'optionalDependencies'].some((it) => json[it]?.[name] !== undefined);
+  return isThere || (at !== folder && at.startsWith(folder) && isNamed(path.dirname(at), name));
+}
+
+/** @param {SourceFile} file @param {string} text of an import that TypeScript finds no module for @returns {boolean} whether the command knows it: a module of Node, a package that package.json names, a file that is no code */
+function isKnown(file, text) {
+  const at = path.dirname(file.fileName);
+  if (/^\.{1,2}\//.test(text)) return existsSync(path.resolve(at, text)) && !isCode(text);
+  return isBuiltin(text) || isNamed(at, text.split('/').slice(0, text.startsWith('@') ? 2 : 1).join('/'));
+}
+
+/**
+ * What the compiler reports, too: of a module that isn't there no name is told.
+ * @param {Language} language
+ * @returns {number} how many files have a syntax error, how many imports resolve to no module, and how many imported names to nothing
+ */
 function lackingBy(language) {
   const { checker } = language;
   let count = 0;
   for (const file of language.sources()) {
     count += syntaxOf(language, file).length;
     forEachNode(file, (it) => {
-      if (ts.isStringLiteral(it) && (ts.isImportDeclaration(it.parent) || ts.isExportDeclaration(it.parent)) && !checker.getSymbolAtLocation(it)) count++;
-      if (!ts.isImportSpecifier(it) && !(ts.isExportSpecifier(it) && it.parent.parent.moduleSpecifier)) return;
-      const symbol = checker.getSymbolAtLocation(it.name);
-      if (symbol && symbol.flags & ts.SymbolFlags.Alias && checker.getAliasedSymbol(symbol).name === 'unknown') count++;
+      if (!(ts.isImportDeclaration(it) || ts.isExportDeclaration(it)) || !it.moduleSpecifier) return;
+      const { text } = /** @type {import('typescript').StringLiteral} */ (it.moduleSpecifier);
+      if (checker.getSymbolAtLocation(it.moduleSpecifier)) count += lackingNames(checker, it);
+      else if (!isKnown(file, text)) count++;
     });
   }
   return count;
+}
+
+/** @param {import('typescript').TypeChecker} checker @param {import('typescript').ImportDeclaration | import('typescript').ExportDeclaration} statement @returns {number} how many names that it takes of a module are not there */
+function lackingNames(checker, statement) {
+  const bindings = ts.isExportDeclaration(statement) ? statement.exportClause : statement.importClause?.namedBindings;
+  const listed = bindings && (ts.isNamedImports(bindings) || ts.isNamedExports(bindings)) ? [...bindings.elements] : [];
+  return listed.filter((it) => {
+    const symbol = checker.getSymbolAtLocation(it.name);
+    return symbol !== undefined && (symbol.flags & ts.SymbolFlags.Alias) !== 0 && checker.getAliasedSymbol(symbol).name === 'unknown';
+  }).length;
+}
+
+/** @param {Language} language @returns {string[]} the entries; and tests and the like, where other modules are there */
+function rootsOf(language) {
+  const names = language.sources().map((it) => language.short(it.fileName));
+  const tests = names.filter((it) => TEST.test(it));
+  return tests.length < names.length ? [...new Set([...entries, ...tests])] : entries;
 }
 
 /** @returns {[string, number, number]} the file, the line and the column of the spot */
@@ -78,11 +118,11 @@ const SEARCHES = {
   missing: lackingBy,
   where: (language) => {
     const [file, line, column] = spotOf();
-    const at = /** @type {import('typescript').SourceFile} */ (language.program.getSourceFile(file)).getPositionOfLineAndCharacter(line - 1, column - 1);
+    const at = /** @type {SourceFile} */ (language.program.getSourceFile(file)).getPositionOfLineAndCharacter(line - 1, column - 1);
     return language.service.getDefinitionAtPosition(file, at)?.length ?? 0;
   },
   uses: (language) => referencesTo(language, ...spotOf()).length,
-  unused: (language) => unusedBy(language, entries, entries).exports.length,
+  unused: (language) => unusedBy(language, entries, rootsOf(language)).exports.length,
   cycles: (language) => [...edgesBy(language, true).values()].reduce((sum, it) => sum + it.size, 0),
   web: (language) => webBy(language, entries).size,
   diff: (language) => {

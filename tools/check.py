@@ -15,7 +15,7 @@ import sys
 import time
 from concurrent.futures import ThreadPoolExecutor
 
-from gate import Part, tool
+from gate import TESTED, Part, tool
 from wrong.crates import TOP
 
 PROGRAMS = ('symq', 'symq_tables')
@@ -35,7 +35,7 @@ def commands(symq, symq_tables):
     yield 'the model', [*model, 'model']
     yield 'stored cases', tool('run_cases.py', '--programs', symq, symq_tables)
     yield 'documents', ['env', 'SYMQ=' + symq, *tool('docs.py')]
-    for name in ('kinds', 'public_names', 'words', 'quotes', 'edit_counts', 'test_docs', 'test_kinds', 'test_mutants', 'test_public_names', 'test_prove', 'test_words'):
+    for name in ('kinds', 'public_names', 'words', 'line_lengths', 'quotes', 'edit_counts', *map('test_%s'.__mod__, TESTED)):
         yield name, tool(name + '.py')
 
 

@@ -29,6 +29,7 @@ import sys
 import tempfile
 
 import quotes
+from set_up import ensure
 from tested import told
 from wrong.clauses import ensures, has_law, words_of_clause
 from wrong.crates import Crate, libraries_of
@@ -260,6 +261,7 @@ def checks(top, with_blocks):
     if with_blocks:
         yield 'a program to run: SYMQ, ./symq or crates/symq/out/symq', bool(blocks.symq), True
     if with_blocks and blocks.symq:
+        ensure(['node', 'tsc'])
         for name in files_below(top, '.md'):
             yield from blocks.checks(name, read(os.path.join(top, name)))
 

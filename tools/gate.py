@@ -1,16 +1,17 @@
 #!/usr/bin/env python3
 """Runs the full check: every proof from nothing, the mutants, the borrows that the library allows, the tables of kinds and
-of public names, the words of names, the counts of mutants, the documents, and the stored cases on the proved programs.
+of public names, the words of names, the lengths of lines, the counts of mutants, the documents, and the stored cases on the
+proved programs.
 
     python3 tools/gate.py
 
 `rt ci` proves the crates from the lowest on. The mutants of a crate are tried meanwhile, as soon as the libraries below
 the crate are proved, over copies of their builds: those that are due, as `wrong_bodies.py` says, by the number of
 commits. Beside them the model of `evidence/` is compared with its sources, and the static library is built and called
-from other languages. The checks that need the proved programs come last: random graphs, the command over directories,
-calls that fail in turn, long chains, and the cases. At the end each part has a line with its time on the clock and of the
-processors. The first lines of each part's failures are repeated, those of the proofs last, since what fails there makes other
-parts fail; the last line is 'N passed, M failed'.
+from other languages. The checks that need the proved programs begin when the proofs have ended: random graphs, the command
+over directories, calls that fail in turn, long chains, and the cases. At the end each part has a line with its time on
+the clock and of the processors. The first lines of each part's failures are repeated, those of the proofs last, since what
+fails there makes other parts fail; the last line is 'N passed, M failed'.
 """
 import os
 import re
@@ -29,6 +30,11 @@ from wrong.crates import TOP, Crate, libraries_below, libraries_of
 HERE = os.path.dirname(os.path.abspath(__file__))
 
 PRINTING = threading.Lock()
+PROCESSORS = len(os.sched_getaffinity(0))
+# the processors that the proofs leave to other parts; priorities alone leave too little to the proofs, since each session gets a fair share
+LEFT = threading.Semaphore(max(1, PROCESSORS - 1))
+# tools with tests that take seconds
+TESTED = ('docs', 'kinds', 'line_lengths', 'mutants', 'public_names', 'prove', 'words')
 # how many lines of a part that failed are repeated at the end
 SHOWN = 12
 
@@ -54,6 +60,11 @@ class Proofs:
         with self.changed:
             self.ended = True
             self.changed.notify_all()
+
+    def wait(self):
+        """Waits until nothing more will be proved."""
+        with self.changed:
+            self.changed.wait_for(lambda: self.ended)
 
     def has(self, names):
         """Waits until these crates are proved, or nothing more will be. Returns whether they are proved."""
@@ -98,6 +109,14 @@ class Part:
             self.failed = self.failed or int(status != 0 or not (self.passed or self.may_be_empty))
 
 
+class PartBeside(Part):
+    """A part that waits until the proofs leave a processor to it."""
+
+    def run(self, command, read=None):
+        with LEFT:
+            return super().run(command, read)
+
+
 def free_here():
     """Returns how much memory and disk is free, as text."""
     with open('/proc/meminfo', encoding='utf-8') as f:
@@ -107,7 +126,8 @@ def free_here():
 
 
 def tool(name, *words):
-    return [sys.executable, os.path.join(HERE, name), *words]
+    """Returns the command that runs a program of tools/, at a lower priority than the proofs have."""
+    return ['nice', '-n', '5', sys.executable, os.path.join(HERE, name), *words]
 
 
 def proofs_part(proofs):
@@ -122,6 +142,7 @@ def proofs_part(proofs):
             part.clock, part.processors = part.clock + first.clock, part.processors + first.processors
     finally:
         proofs.end()
+        LEFT.release()
     if not part.failed:
         keep('symq', os.path.join(TOP, 'crates', 'symq', 'out', 'symq'), made_from)
     return part
@@ -139,22 +160,22 @@ def commits():
 
 
 def wrong_bodies_part(name, libraries, proofs, lanes, turn):
-    """Tries the mutants of a crate that are due, once the libraries below it are proved. The proofs have priority."""
-    part = Part('wrong bodies: ' + name, may_be_empty=True)
+    """Tries the mutants of a crate that are due, once the libraries below it are proved."""
+    part = PartBeside('wrong bodies: ' + name, may_be_empty=True)
     if not proofs.has(libraries_below(name, libraries)):
         return part
     words = ['--checks', '--libraries', proofs.folder, '--lanes', lanes, '--turn', turn, name]
-    return part.run(['nice', '-n', '5', *tool('wrong_bodies.py', *words)])
+    return part.run(tool('wrong_bodies.py', *words))
 
 
 def shown_part(lanes):
     """Runs the cases and tests that mutants name which break a proof by hand."""
-    return Part('wrong bodies: shown by runs').run(['nice', '-n', '5', *tool('wrong_bodies.py', '--runs', '--lanes', lanes)])
+    return PartBeside('wrong bodies: shown by runs').run(tool('wrong_bodies.py', '--runs', '--lanes', lanes))
 
 
 def borrows_part(proofs):
     """Checks which borrows are allowed, once the crates that they use are proved."""
-    part = Part('borrows')
+    part = PartBeside('borrows')
     if not proofs.has(libraries_below('borrows', with_borrows(libraries_of(TOP)))):
         return part
     return part.run(tool('run_borrows.py', '--libraries', proofs.folder))
@@ -162,19 +183,25 @@ def borrows_part(proofs):
 
 def bindings_part(proofs):
     """Builds the static library, and calls it from other languages, once the libraries below it are proved."""
-    part = Part('from C, Python and Rust')
+    part = PartBeside('from C, Python and Rust')
     if not proofs.has(libraries_below('symq_c', libraries_of(TOP))):
         return part
     return part.run(tool('run_bindings.py', '--libraries', proofs.folder))
 
 
-def tests_part(name):
-    return Part('tests of tools/' + name).run(tool('test_' + name))
+def tests_part(name, *words):
+    return PartBeside('tests of tools/' + name).run(tool('test_' + name, *words))
 
 
 def model_part(what):
     """Compares the model with its rows and readings, or the program with the model."""
-    return Part('evidence: ' + what).run([sys.executable, os.path.join(TOP, 'evidence', 'model', 'gate.py'), what])
+    return PartBeside('evidence: ' + what).run(tool('../evidence/model/gate.py', what))
+
+
+def programs_part(proofs, run):
+    """Runs a part that needs the programs, once no more proofs are to come."""
+    proofs.wait()
+    return run()
 
 
 def laid(folder, name, files=0):
@@ -187,31 +214,50 @@ def laid(folder, name, files=0):
     return path
 
 
+def part_of(name, program, *words):
+    """Returns a call that runs a program of tools/ as a part."""
+    return lambda: PartBeside(name).run(tool(program, *words))
+
+
+# what needs no proof, and what needs the proved programs, the longest first
+TABLES = (
+    part_of('table of kinds', 'kinds.py'),
+    part_of('public names', 'public_names.py'),
+    part_of('counts of wrong bodies', 'edit_counts.py'),
+    part_of('quotes of the sources', 'quotes.py'),
+    part_of('words of names', 'words.py'),
+    part_of('lengths of lines', 'line_lengths.py'),
+)
+ON_PROGRAMS = (
+    part_of('symdir', 'run_symdir.py'),
+    part_of('long ways', 'run_deep.py'),
+    part_of('evidence: long ways', 'run_deep.py', '--model'),
+    lambda: model_part('program'),
+    part_of('refused calls', 'run_refusing.py'),
+    part_of('floods', 'run_flood.py'),
+    part_of('plain graphs', 'run_plain.py'),
+    part_of('documents', 'docs.py'),
+    part_of('cases', 'run_cases.py', '--proved'),
+)
+
+
 def all_parts():
-    """Runs the parts: `rt ci`, and checks of mutants beside it. These have lower priority, since the proofs are mostly a chain. On less than four
-    processors `rt ci` has two proofs at once, with one job each. On more it distributes them itself, and a crate on that chain gets more than one
+    """Runs the parts: `rt ci`, and all others beside it on the processors but one, at a lower priority, since the proofs are mostly a chain. On less than
+    four processors `rt ci` has two proofs at once, with one job each. On more it distributes them itself, and a crate on that chain gets more than one
     job."""
-    processors, libraries, turn = len(os.sched_getaffinity(0)), libraries_of(TOP), commits()
-    if processors < 4:
+    libraries, turn = libraries_of(TOP), commits()
+    if PROCESSORS < 4:
         os.environ.setdefault('RT_JOBS', '2')
     edits = {name: len(Crate(TOP, name, libraries).names()) for name in libraries}
     names = sorted((name for name in libraries if edits[name]), key=lambda it: -edits[it])
-    with tempfile.TemporaryDirectory(prefix='gate-') as folder, ThreadPoolExecutor(len(names) + 8) as pool:
-        proofs, lanes = Proofs(laid(folder, 'built')), laid(folder, 'lanes', max(2, processors - 1))
+    with tempfile.TemporaryDirectory(prefix='gate-') as folder, ThreadPoolExecutor(len(names) + 32) as pool:
+        proofs, lanes = Proofs(laid(folder, 'built')), laid(folder, 'lanes', max(1, PROCESSORS - 1))
         tasks = [pool.submit(proofs_part, proofs), pool.submit(borrows_part, proofs), pool.submit(bindings_part, proofs)]
-        tasks += [pool.submit(tests_part, name) for name in ('wrong_bodies.py', 'mutants.py', 'public_names.py', 'kinds.py', 'prove.py', 'docs.py', 'words.py')]
-        tasks += [pool.submit(model_part, 'model'), pool.submit(shown_part, lanes)]
+        tasks += [pool.submit(tests_part, 'wrong_bodies.py', '--turn', turn), *(pool.submit(tests_part, name + '.py') for name in TESTED)]
+        tasks += [pool.submit(model_part, 'model'), pool.submit(shown_part, lanes), *map(pool.submit, TABLES)]
         tasks += [pool.submit(wrong_bodies_part, name, libraries, proofs, lanes, turn) for name in names]
-        parts = [it.result() for it in tasks]
-    parts += [Part('table of kinds').run(tool('kinds.py')), Part('public names').run(tool('public_names.py'))]
-    parts += [Part('counts of wrong bodies').run(tool('edit_counts.py')), Part('quotes of the sources').run(tool('quotes.py'))]
-    parts += [Part('words of names').run(tool('words.py')), Part('documents').run(tool('docs.py'))]
-    parts.append(Part('plain graphs').run(tool('run_plain.py')))
-    parts += [model_part('program'), Part('symdir').run(tool('run_symdir.py'))]
-    parts += [Part('refused calls').run(tool('run_refusing.py')), Part('long ways').run(tool('run_deep.py'))]
-    parts.append(Part('evidence: long ways').run(tool('run_deep.py', '--model')))
-    parts.append(Part('floods').run(tool('run_flood.py')))
-    return parts + [Part('cases').run(tool('run_cases.py', '--proved'))]
+        tasks += [pool.submit(programs_part, proofs, it) for it in ON_PROGRAMS]
+        return [it.result() for it in tasks]
 
 
 def main():

@@ -3,6 +3,7 @@
 
 A missing command is installed from Debian's package, if this is root and has apt-get; otherwise a line says what to install.
 """
+import fcntl
 import os
 import re
 import shutil
@@ -29,15 +30,17 @@ def may_install():
 
 
 def install(packages):
-    """Installs packages of Debian. If that fails, it updates the lists of packages and tries once more."""
+    """Installs packages of Debian, one call of this program at a time. If that fails, it updates the lists of packages and tries once more."""
     print(f'installing {", ".join(packages)}', file=sys.stderr)
     words = ['apt-get', 'install', '-y', '--no-install-recommends', *packages]
-    if quiet(words).returncode != 0:
-        updated = quiet(['apt-get', 'update'])
-        done = quiet(words)
-        if done.returncode != 0:
-            # a package that isn't found may only lack in lists that weren't updated, as beside another apt-get
-            sys.exit((updated.stdout[-1000:] if updated.returncode != 0 else '') + done.stdout[-2000:])
+    with open(os.path.join(tempfile.gettempdir(), 'deno_symbols.set_up'), 'w', encoding='utf-8') as lock:
+        fcntl.flock(lock, fcntl.LOCK_EX)
+        if quiet(words).returncode != 0:
+            updated = quiet(['apt-get', 'update'])
+            done = quiet(words)
+            if done.returncode != 0:
+                # a package that isn't found may only lack in lists that weren't updated, as beside another apt-get
+                sys.exit((updated.stdout[-1000:] if updated.returncode != 0 else '') + done.stdout[-2000:])
 
 
 def ensure(commands):

@@ -1,10 +1,14 @@
 #!/usr/bin/env python3
 """Tests of wrong_bodies.py on a small crate of its own: that it accepts mutants that are refused, or shown wrong, and nothing else.
 
-    python3 tools/test_wrong_bodies.py
+    python3 tools/test_wrong_bodies.py [--record]
+    python3 tools/test_wrong_bodies.py --turn N    without those by checks and runs that passed with these programs and this kit, but for every
+                                                   twelfth N
 
-A line a test that fails; the last line is 'N passed, M failed'.
+A line a test that fails; the last line is 'N passed, M failed'. --record writes the hash of what the tests by checks and runs depend on, if all pass.
 """
+import argparse
+import glob
 import os
 import shutil
 import sys
@@ -22,6 +26,7 @@ from wrong.trying import tried_all
 from wrong.verdicts import judged
 
 HERE = os.path.dirname(os.path.abspath(__file__))
+PASSED = os.path.join(HERE, 'wrong', 'tests_passed')
 
 SOURCE = '''//! A small crate.
 #![tactic(auto)]
@@ -667,15 +672,20 @@ test result: FAILED. 1 passed; 4 failed; 0 ignored; 0 filtered out
 '''
 
 
-def tests():
-    """Yields each test's name, with what was found and what is expected."""
+def tests_by_checks():
+    """Yields each test that takes checks and runs of the small crate: its name, with what was found and what is expected."""
     with tempfile.TemporaryDirectory() as folder:
         yield from tests_of_outcomes(folder)
         yield from tests_of_runs(folder)
         yield from tests_of_the_record(folder)
-    with tempfile.TemporaryDirectory() as folder:
-        yield from tests_of_contracts(folder)
-    for own in (tests_of_what_names_nothing, tests_of_whole_checks, tests_of_answers_to_no_goal, tests_of_faces, tests_of_what_is_signed):
+    for own in (tests_of_contracts, tests_of_what_names_nothing, tests_of_whole_checks):
+        with tempfile.TemporaryDirectory() as folder:
+            yield from own(folder)
+
+
+def other_tests():
+    """Yields the others, in the same way."""
+    for own in (tests_of_answers_to_no_goal, tests_of_faces, tests_of_what_is_signed):
         with tempfile.TemporaryDirectory() as folder:
             yield from own(folder)
     yield from tests_of_turns()
@@ -685,5 +695,28 @@ def tests():
     yield 'a test that a fault ended, or that ran out of its time, tells nothing', shown.told_of_tests(SAID), wanted
 
 
+def sum_of_inputs():
+    """Returns the hash of what the tests by checks and runs depend on: the kit, and the programs that they run."""
+    own = [os.path.join(HERE, it) for it in ('run_cases.py', 'runner.py', 'tested.py', 'test_wrong_bodies.py')]
+    return record.digest([record.kit_here(), *(read(it) for it in sorted(glob.glob(os.path.join(HERE, 'wrong', '*.py'))) + own)])
+
+
+def have_passed():
+    """Returns whether the tests by checks and runs passed with the present inputs."""
+    return os.path.isfile(PASSED) and read(PASSED).strip() == sum_of_inputs()
+
+
+def main(words):
+    parser = argparse.ArgumentParser(description='Tests wrong_bodies.py.')
+    parser.add_argument('--turn', type=int, help='leave out what passed with these programs and this kit, but for every twelfth number')
+    parser.add_argument('--record', action='store_true', help='write that all passed')
+    args = parser.parse_args(words)
+    is_left_out = args.turn is not None and args.turn % record.TURNS != 0 and have_passed()
+    status = told(it for own in ((other_tests,) if is_left_out else (other_tests, tests_by_checks)) for it in own())
+    if args.record and not is_left_out and status == 0:
+        write(PASSED, sum_of_inputs() + '\n')
+    return status
+
+
 if __name__ == '__main__':
-    sys.exit(told(tests()))
+    sys.exit(main(sys.argv[1:]))

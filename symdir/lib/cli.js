@@ -119,10 +119,11 @@ function pattern(text) {
 }
 
 /** @param {Run} run @returns {import('./folder/begin.js').Reading} */
-function reading({ words, options }) {
+function reading({ words, options, report }) {
   const progress = new Progress(options.verbose ?? false);
   if (!words[0]) throw new Failure('a directory is required; see `symdir --help`', 2);
-  if (/:\d+$/.test(words[0])) throw new Failure(`the directory comes first, as in \`symdir where . ${words[0]}\``, 2);
+  const command = report?.command === 'uses' ? 'uses' : 'where';
+  if (/:\d+$/.test(words[0])) throw new Failure(`the directory comes first, as in \`symdir ${command} . ${words[0]}\``, 2);
   const folder = withSlashes(path.resolve(words[0]));
   checkFolder(folder);
   return {

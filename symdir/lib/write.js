@@ -126,9 +126,11 @@ function writtenToFile(pieces) {
   return true;
 }
 
-/** @param {string} text for standard output */
+/** @param {string | Buffer} text for standard output */
 export function output(text) {
-  if (!writtenToFile([Buffer.from(text)])) process.stdout.write(text);
+  isFile ??= fstatSync(STANDARD_OUTPUT).isFile();
+  if (!isFile) process.stdout.write(text);
+  else writtenToFile([Buffer.from(text)]);
 }
 
 /** @param {Buffer[]} pieces for standard output, written no faster than they are read */

@@ -61,6 +61,10 @@ test('a file that isn\'t there counts as deleted: what would import it can chang
   assert.deepEqual([namesOf(out), out.lists], [['index.ts a'], ['index.ts']]);
   const { status, stderr } = symdir(['affected', folder, 'nothing.ts']);
   assert.deepEqual([status, stderr], [0, 'symdir: no such file, and no import would lead to it: nothing.ts\n']);
+  const inner = folderOf({ 'in/a.ts': 'export const a = 1;\n' });
+  const told = (/** @type {string} */ it) => `symdir: ${it} is a directory: name the files in it that changed, or --since REV\n`;
+  assert.deepEqual(symdir(['affected', inner, 'in/a.ts', 'in/']), { status: 2, stdout: '', stderr: told('in') });
+  assert.deepEqual(symdir(['affected', inner, '.']), { status: 2, stdout: '', stderr: told('.') });
 });
 
 test('a configuration file can change what each import stands for', () => {

@@ -89,7 +89,8 @@ test('usage errors', () => {
   assert.equal(said('api', folder, '--entry', 'c.ts'), `symdir: no such module: c.ts in ${folder}\n`);
   assert.equal(said('web', folder, '-o', 'x.bmp'), 'symdir: -o x.bmp: expected a file name that ends in .svg, .png, .pdf or .dot\n');
   assert.equal(said('api', folder, '--symq', '/none/symq'), 'symdir: no such program: /none/symq\n');
-  assert.equal(said('where', 'src/a.ts:3:14'), 'symdir: the directory comes first, as in `symdir where . src/a.ts:3:14`\n');
+  for (const it of ['where', 'uses']) assert.equal(said(it, 'src/a.ts:3:14'), `symdir: the directory comes first, as in \`symdir ${it} . src/a.ts:3:14\`\n`);
+  assert.equal(said('unused', 'src/a.ts:3'), 'symdir: the directory comes first, as in `symdir where . src/a.ts:3`\n');
 });
 
 /** @param {string[]} words of a usage error @returns {Promise<string>} what the command says of it, in this process */

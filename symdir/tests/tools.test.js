@@ -55,18 +55,42 @@ test('bench/commands.mjs says how it is called', () => {
 });
 
 test('what bench/commands.mjs times finds as much: a syntax error is missing, and ways of names are edges', () => {
-  const folder = folderOf({
+  const counts = (/** @type {string} */ commands, /** @type {Record<string, string>} */ files) => {
+    const { status, stdout } = run(process.execPath, ['bench/commands.mjs', '--rounds', '1', '--commands', commands, '--symq', findSymq(undefined), folderOf(files)]);
+    assert.equal(status, 0);
+    return stdout.match(/symdir \d+, service \d+/g);
+  };
+  assert.deepEqual(counts('missing,web', {
     'index.ts': 'import { gone } from "./a";\nimport "./none";\nexport * from "./a";\nexport * as space from "./b";\nexport { gone };\nexport const own = 1;\n',
     'a.ts': 'export * from "./b";\nexport const a = 1;\n', 'b.ts': 'export const b = 1;\n', 'wrong.d.ts': '"text".',
-  });
-  const { status, stdout } = run(process.execPath, ['bench/commands.mjs', '--rounds', '1', '--commands', 'missing,web', '--symq', findSymq(undefined), folder]);
-  assert.deepEqual([status, stdout.match(/symdir \d+, service \d+/g)], [0, ['symdir 3, service 3', 'symdir 3, service 3']]);
+  }), ['symdir 3, service 3', 'symdir 3, service 3']);
+  // of a module that isn't there no name is told, and packages that are named, modules of Node and files that are no code aren't missing; tests are roots beside others alone
+  const imports = ['import { a, b } from "./none";', 'import "named/deep";', 'import { x } from "@s/named";', 'import "unnamed";', 'import { join } from "path";', 'import "./a.css";', 'import "./b.css";', 'export { y } from "./in/a";'];
+  const inner = { 'in/a.ts': 'import "inner";\nexport const y = 1;\nexport const z = 2;\n', 'in/package.json': '{"peerDependencies":{"inner":"1"}}' };
+  const named = { 'package.json': '{"dependencies":{"named":"1"},"devDependencies":{"@s/named":"1"}}', 'a.css': '' };
+  assert.deepEqual(counts('missing,unused', { 'index.ts': imports.join('\n'), 'tests/t.ts': 'export const t = 1;\n', ...inner, ...named }), ['symdir 3, service 3', 'symdir 1, service 1']);
+  assert.deepEqual(counts('unused', { 'tests/a.ts': 'import { t } from "./t";\nexport const a = t;\n', 'tests/t.ts': 'export const t = 1, u = 2;\n' }), ['symdir 1, service 1']);
 });
 
 test('bench/commands.mjs compares a directory with a copy that has one name more, by `diff`', () => {
   const folder = path.join(TOP, 'examples/shop/new');
   const { status, stdout } = run(process.execPath, ['bench/commands.mjs', '--rounds', '1', '--commands', 'diff', '--symq', findSymq(undefined), folder]);
   assert.deepEqual([status, stdout.match(/symdir \d+, service \d+/g)], [0, ['symdir 1, service 1']]);
+});
+
+test('bench/saves.mjs says how it is called, and times each save', () => {
+  const usage = 'usage: node bench/saves.mjs [--saves N] [--command NAME] [--symq FILE] [--typescript DIR] FOLDER FILE\n';
+  const said = (/** @type {string[]} */ ...words) => run(process.execPath, ['bench/saves.mjs', ...words]);
+  const wrong = (/** @type {string} */ text) => ({ status: 2, stdout: '', stderr: `saves.mjs: ${text}\n${usage}` });
+  assert.deepEqual(said('--help'), { status: 0, stdout: usage, stderr: '' });
+  assert.deepEqual(said('--none'), wrong("Unknown option '--none'"));
+  assert.deepEqual(said('--saves', '0', TOP, 'a.ts'), wrong('--saves is a number from 1'));
+  assert.deepEqual(said('--command', 'web', TOP, 'a.ts'), wrong('no command web; there are api, leaks, missing'));
+  assert.deepEqual(said(TOP), wrong('which directory, and which file in it?'));
+  assert.deepEqual(said('examples/shop/new', 'none.ts'), wrong('no file none.ts in examples/shop/new'));
+  const { status, stdout } = said('--saves', '2', '--symq', findSymq(undefined), path.join(TOP, 'examples/shop/new'), 'item.ts');
+  assert.equal(status, 0);
+  assert.match(stdout, /^new api --watch, 2 saves of item\.ts: clock median \d+ ms, worst \d+ ms; its process median \d+ ms, worst \d+ ms\n$/);
 });
 
 test('bench/huge.mjs says how it is called', () => {

@@ -2,7 +2,9 @@
 import assert from 'node:assert/strict';
 import test from 'node:test';
 
-import { TreeNode, TreeText, nodesText, numbered } from '../lib/tree/node.js';
+import { TreeNode, nodesText, numbered } from '../lib/tree/node.js';
+import { Nodes } from '../lib/tree/nodes.js';
+import { TreeText } from '../lib/tree/treetext.js';
 import { TreeWriter } from '../lib/tree/treewriter.js';
 
 /** @typedef {import('../lib/tree/node.js').Field} Field */
@@ -19,10 +21,29 @@ function described({ kind, start, end, fields }) {
   return { kind, range: [start, end], ...Object.fromEntries(there.map(([key, it]) => [key, plain(it)])) };
 }
 
+/** @param {Field} value @returns {TreeNode[]} */
+function held(value) {
+  return /** @type {any[]} */ ([value].flat()).filter((it) => it instanceof TreeNode);
+}
+
+/** @param {TreeText} text @param {TreeNode} item which it is given as the converter makes it: each node behind what it holds */
+function put(text, item) {
+  const nodes = new Nodes();
+  const all = [item];
+  for (let i = 0; i < all.length; i++) all.push(...Object.values(all[i].fields).flatMap(held));
+  const made = new Map();
+  const given = (/** @type {any} */ it) => made.get(it) ?? it;
+  for (const it of all.reverse()) {
+    const fields = Object.entries(it.fields).map(([key, value]) => [key, Array.isArray(value) ? value.map(given) : given(value)]);
+    made.set(it, nodes.add(it.kind, it.start, it.end, Object.fromEntries(fields)));
+  }
+  text.add(nodes, made.get(item));
+}
+
 /** @param {TreeNode[]} items @returns {{ text: string, wanted: string, pieces: Buffer[] }} of the program that has them */
 function written(items) {
   const made = new TreeText();
-  for (const it of items) made.add(it);
+  for (const it of items) put(made, it);
   const pieces = made.whole(new TreeNode('Program', 0, 1, {}));
   const nodes = numbered(new TreeNode('Program', 0, 1, { body: items })) ?? [];
   return { text: String(Buffer.concat(pieces)), wanted: JSON.stringify(nodes.map(described)), pieces };
@@ -30,8 +51,9 @@ function written(items) {
 
 test('numbers of any length', () => {
   const borders = [0, 9, 10, 99, 100, 999, 1000, 1009, 9999, 10_000, 10_001, 100_000, 999_999, 1_000_000, 10_000_000, 99_990_009, 99_999_999, 100_000_000, 100_000_001, 2 ** 31 - 1, 2 ** 31,
-    2 ** 31 + 7, 2 ** 32, 99_999_999_999, 100_000_000_000, Number.MAX_SAFE_INTEGER];
-  const items = borders.map((it) => new TreeNode('Ident', it, it, { sym: ['a', it] }));
+    2 ** 31 + 7, 2 ** 32 - 1];
+  // a text has less than 2 ** 29 units of three bytes at most, and the scopes of bodies are counted from 2 ** 31 on
+  const items = borders.map((it) => new TreeNode('Ident', Math.min(it, 2 ** 31 - 1), Math.min(it, 2 ** 31 - 1), { sym: ['a', it] }));
   const { text, wanted } = written(items);
   assert.equal(text, wanted);
   assert.equal(nodesText(items), JSON.stringify(items.map(described)));
@@ -41,7 +63,7 @@ test('fields of each sort, in the order in which they come, and those that are e
   const leaf = () => new TreeNode('Str', 1, 2, { value: 'é"\\\n\u2028😀\u007f' });
   /** @type {Record<string, Field>[]} */
   const fields = [{ value: '', plain: true, left: leaf() }, { left: leaf(), plain: true, value: 'x' }, { left: null, right: undefined, plain: false, children: [] }, { children: [leaf(), leaf()], sym: ['b', 3] },
-    { plain: 12, sym: ['"', 0] }, {}];
+    { plain: true, sym: ['"', 2 ** 32 - 1] }, { sym: ['c', 2 ** 31] }, {}];
   const { text, wanted } = written(fields.map((it) => new TreeNode('Other', 3, 4, it)));
   assert.equal(text, wanted);
 });
@@ -69,7 +91,7 @@ test('a deep tree that is made item by item: what can go is left out, and it is 
   }
   const isTooDeep = [4095, 4096].map((depth) => {
     const made = new TreeText();
-    made.add(chain(depth));
+    put(made, chain(depth));
     return made.isTooDeep;
   });
   assert.deepEqual(isTooDeep, [false, true]);
@@ -87,7 +109,7 @@ test('nodes that none was written before are none', () => {
 test('the memory of a tree that is copied is used for the next one, and that of another isn\'t', () => {
   const made = (/** @type {string} */ name) => {
     const text = new TreeText();
-    text.add(new TreeNode('Ident', 1, 2, { sym: [name, 0] }));
+    put(text, new TreeNode('Ident', 1, 2, { sym: [name, 0] }));
     return { text, pieces: text.whole(new TreeNode('Program', 0, 1, {})) };
   };
   const memory = (/** @type {{ pieces: Buffer[] }} */ { pieces }) => pieces.map((it) => it.buffer).find((it) => it.byteLength >= 1 << 20);

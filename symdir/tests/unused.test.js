@@ -55,6 +55,23 @@ test('--production leaves tests out, and what they alone reach', () => {
   assert.deepEqual(ours(answer(['unused', folder, '--production'])), wanted);
 });
 
+test('below a directory of examples alone these are sources as any, and are roots beside others', () => {
+  const examples = {
+    'examples/data.json': '{}', 'examples/a.ts': 'import { used } from "./lib/b";\nimport data from "./data.json";\nexport const a = [used, data];\n',
+    'examples/lib/b.ts': 'export const used = 1, lost = 2;\n', 'examples/lib/c.test.ts': 'import "./d";\n', 'examples/lib/d.ts': 'export const d = 1;\n' };
+  const folder = folderOf(examples);
+  const names = Object.keys(examples).filter((it) => it.endsWith('.ts'));
+  const entries = ['examples/a.ts', 'examples/lib/c.test.ts'];
+  const wanted = unusedBy(new Language(folder, names), entries, entries);
+  assert.deepEqual(wanted, { files: [], exports: ['examples/lib/b.ts lost', 'examples/lib/d.ts d'] });
+  for (const words of [[], ['--production']]) assert.deepEqual(ours(answer(['unused', folder, ...words])), wanted);
+  const beside = folderOf({ ...examples, 'index.ts': 'export {};\n' });
+  assert.deepEqual(unusedBy(new Language(beside, [...names, 'index.ts']), ['index.ts'], ['index.ts', ...names]), { files: [], exports: [] });
+  assert.deepEqual(ours(answer(['unused', beside])), { files: [], exports: [] });
+  const production = unusedBy(new Language(beside, ['index.ts']), ['index.ts'], ['index.ts']);
+  assert.deepEqual(ours(answer(['unused', beside, '--production'])), production);
+});
+
 test('kinds and places, what the file uses itself, values that are used as types', () => {
   const out = answer(['unused', folderOf(FILES)]);
   assert.deepEqual(out.entries, ['index.ts']);

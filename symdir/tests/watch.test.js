@@ -6,10 +6,13 @@ import test from 'node:test';
 
 import { Configs } from '../lib/folder/configs.js';
 import { Files } from '../lib/folder/files.js';
+import { Folder } from '../lib/folder/folder.js';
+import { hashOf } from '../lib/folder/kept.js';
 import { Resolver } from '../lib/folder/resolve.js';
+import { Places } from '../lib/folder/text.js';
 import { differenceOf, differentLines } from '../lib/watch/difference.js';
 import { Watch } from '../lib/watch/watch.js';
-import { Watched } from '../lib/watch/watchers.js';
+import { Watched, Watchers } from '../lib/watch/watchers.js';
 import { folderOf, symdir } from './helper.js';
 import { watched } from './watching.js';
 
@@ -191,6 +194,18 @@ test('it ends where the directory goes', async () => {
   });
 });
 
+test('a directory that goes just before it is watched anew is told', () => {
+  const folder = path.join(folderOf({ 'dir/index.ts': '' }), 'dir');
+  /** @type {string[]} */
+  const heard = [];
+  const watchers = new Watchers((it) => void heard.push(it));
+  assert.equal(watchers.follow(new Set([folder]), new Set()), true);
+  rmSync(folder, { recursive: true });
+  assert.equal(watchers.follow(new Set([folder]), new Set()), false);
+  watchers.close();
+  assert.deepEqual(heard, [folder]);
+});
+
 test('what it can\'t be combined with, and what fails at once', () => {
   const folder = folderOf({ 'index.ts': 'export const a = 1;\n', 'symdir.json': '{"watch":true}' });
   const refused = (/** @type {string[]} */ ...words) => {
@@ -237,6 +252,20 @@ test('a file is read again only where its size or its times differ, or were thos
   assert.deepEqual([hash(), hashes.size], [new Files(folder, []).hash(file), 0]);
   rmSync(file);
   assert.deepEqual([hash(), hashes.size], ['', 0]);
+});
+
+test('lines and declarations of a module are taken over where it is what it was, and lines only where they are those of its text', () => {
+  const of = (/** @type {string} */ text) => ({ hash: hashOf(text), references: [], declarations: [0, 1, 0, 0, 0] });
+  const [same, torn, changed] = ['a', '\n\nb', 'c'].map(of);
+  const folderWith = (/** @type {any} */ third, /** @type {string} */ file) => new Folder(/** @type {any} */ ({ modules: new Map([
+    ['a', { file: '/a', parsed: same }], ['b', { file: '/b', parsed: torn }], ['c', { file: '/c', parsed: third }], ['d', { file, parsed: same }]]) }), [], { last: null, results: null });
+  const [before, now] = [folderWith(changed, '/d'), folderWith(of('c'), '/other/d')];
+  for (const it of ['a', 'b', 'c', 'd']) before.tableOf(it, same.declarations);
+  // the file of `b` was empty for a moment, when its lines were looked for
+  for (const [it, text] of [['a', 'a'], ['b', ''], ['c', 'c'], ['d', 'a']]) before.places.set(it, new Places(text));
+  now.takeOver(before);
+  assert.deepEqual([[...now.places.keys()], [...now.tables.keys()]], [['a'], ['a', 'b']]);
+  assert.deepEqual(now.places.get('a'), before.places.get('a'));
 });
 
 test('imports are resolved again where a file came or went or a configuration changed, and not where a module alone did', () => {

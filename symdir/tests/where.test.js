@@ -127,6 +127,12 @@ test('where no name stands, and places that aren\'t there', () => {
   assert.deepEqual(symdir(['where', folder, 'index.ts:1', 'none']), { status: 1, stdout: 'no name none at index.ts:1\n', stderr: '' });
   assert.deepEqual(symdir(['where', folder, 'index.ts:40']), { status: 2, stdout: '', stderr: 'symdir: index.ts has 7 lines\n' });
   assert.deepEqual(symdir(['where', folder, 'none.ts:1']), { status: 2, stdout: '', stderr: `symdir: no such module: none.ts in ${folder}\n` });
+  const typed = folderOf({ 'a.js': 'exports.a = 1;\n', 'a.d.ts': 'export const a: number;\n', 'b.ts': 'export const b = 1;\n', 'c.txt': '' });
+  const refused = (/** @type {string} */ command, /** @type {string} */ spot, /** @type {string[]} */ ...more) => symdir([command, typed, spot, ...more]).stderr;
+  for (const it of ['where', 'uses']) assert.equal(refused(it, 'a.js:1'), "symdir: a.js isn't read: a file with its types is read in its place (--js reads both)\n");
+  assert.equal(symdir(['where', typed, 'a.js:1', '--js']).status, 1);
+  assert.equal(refused('where', 'b.ts:1', '--skip', 'b'), "symdir: b.ts isn't read: --skip leaves it out\n");
+  assert.equal(refused('where', 'c.txt:1'), `symdir: no such module: c.txt in ${typed}\n`);
   assert.equal(symdir(['where', folder]).stderr, 'symdir: where takes FILE:LINE or FILE:LINE:COLUMN, as `symdir where . src/a.ts:3:14`\n');
 });
 

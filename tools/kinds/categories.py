@@ -1,6 +1,6 @@
 """Generates sets and categories: which kinds they have, in the code and in contracts."""
 from .lines import code, contracts, sentence, space_all, uses
-from .tree import DECLARED, SPECS
+from .tree import DECLARED, SPECS, contract_names, enum_uses
 
 
 def comment_of(table, category):
@@ -55,7 +55,7 @@ def allows_lines(table):
 def categories_file(table):
     """Returns the file with the enum of categories, and the tests for their kinds."""
     names = ', '.join(['category_allows_kind', *(it.test() for it in table.sets.values())])
-    ghosts = ['ghost use Rattle.std.specs.Prelude.{◌≡◌};', 'ghost use %sCategories.{%s};' % (SPECS, names)]
+    ghosts = ['ghost use Rattle.std.specs.Prelude.{◌≡◌};', 'ghost use %sKinds.{%s};' % (SPECS, names)]
     doc = 'Categories: which kinds may stand at a place.'
     return code(doc, ghosts, ['use crate::tree::names::KindName;'], enum_lines(table), tests_lines(table), allows_lines(table))
 
@@ -79,9 +79,11 @@ def contract_allows_lines(table):
     return ['-- whether a kind may stand at a place of the category', 'abbrev pub category_allows_kind : Category → KindName → Bool', *rows]
 
 
-def contract_categories_file(table):
-    """Returns the functions of contracts that test for the kinds of sets and categories."""
+def contract_kinds_file(table):
+    """Returns the functions of contracts that name kinds, and that test for the kinds of sets and categories."""
     brought = uses('Rattle.std.specs.Prelude.{Bool, true, false, ◌||◌, not}', DECLARED + 'names.KindName.{KindName}',
-                   DECLARED + 'names.KindName.TheVariants as Name', DECLARED + 'categories.Category.{Category}')
+                   DECLARED + 'names.KindName.TheVariants as Name')
+    brought += enum_uses(table, DECLARED + 'categories.Category.{Category}')
     sets = [contract_test_lines(table, one) for one in table.sets.values()]
-    return contracts('The categories: which kinds may stand at a place.', brought, *sets, contract_allows_lines(table))
+    doc = 'The names of the kinds, and the categories: which kinds may stand at a place.'
+    return contracts(doc, brought, *contract_names(table), *sets, contract_allows_lines(table))

@@ -2,8 +2,8 @@
 of contracts."""
 from dataclasses import dataclass
 
-from .lines import code, contracts, space_all, uses
-from .tree import DECLARED, SPECS, enum_names
+from .lines import CLAUSE, code, filled, space_all
+from .tree import SPECS, enum_names
 
 
 @dataclass(frozen=True)
@@ -60,12 +60,9 @@ def contract_lines(named):
     return ['abbrev pub %s : Kind → %s' % (named.contract, result), *rows, '%s _ = %s' % (named.contract, none)]
 
 
-def contract_file(table):
-    """Returns the functions of contracts of all names."""
-    brought = uses('Rattle.std.specs.Prelude.{ℕ, List, [], Option, Some, None}',
-                   *(DECLARED + 'kinds.%s.TheVariants as %s' % (it.name, it.name) for it in table.enums), DECLARED + 'kinds.Kind.{Kind}')
-    doc = 'The fields that hold children, by their names: of a kind without the field none.'
-    return contracts(doc, brought, *(contract_lines(it) for it in named_of(table)))
+def contract_named(table):
+    """Returns the functions of contracts of all names, as parts of a file."""
+    return [contract_lines(it) for it in named_of(table)]
 
 
 def arm_line(enum, of):
@@ -101,7 +98,7 @@ def function_lines(table, named):
 def functions_file(table):
     """Returns the functions of kinds of all names."""
     ghosts = ['ghost use Rattle.std.specs.Prelude.{◌≡◌};', use_line(table)]
-    brought = ['use crate::tree::arena::NodeId;', enum_names(table)]
+    brought = [enum_names(table, 'crate::tree', 'NodeId')]
     doc = 'The fields of a kind that hold children, by their names: of a kind without the field none.'
     return code(doc, ghosts, brought, *(function_lines(table, it) for it in named_of(table)))
 
@@ -115,7 +112,8 @@ def method_lines(named):
         clause = 'option_map node_view result ≡ child_in_field (node_view self.entry) %s' % named.contract
         body = ['let child = kind_fields::%s(self.kind());' % named.function, 'NodeRef::node_in(self.tree, child)']
         result = "Option<NodeRef<'a>>"
-    return ['    /// Returns the `%s` of %s.' % (named.field, whose(named)), '    pub fn %s(self) -> %s' % (named.method, result),
+    doc = filled(('Returns the `%s` of %s.' % (named.field, whose(named))).split(' '), CLAUSE - 8, '    /// %s', ' ', '')
+    return [*doc, '    pub fn %s(self) -> %s' % (named.method, result),
             '        ensures { %s }' % clause, '    {', *space_all(8, body), '    }']
 
 
@@ -136,7 +134,7 @@ def methods_lines(table):
 
 def use_line(table):
     """Returns the line that imports the functions of contracts of all names."""
-    return 'ghost use %sChildFields.{%s};' % (SPECS, ', '.join(it.contract for it in named_of(table)))
+    return 'ghost use %sFields.{%s};' % (SPECS, ', '.join(it.contract for it in named_of(table)))
 
 
 def methods_file(table):

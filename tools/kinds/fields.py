@@ -1,4 +1,5 @@
 """Generates the fields that hold children, of each kind in order, each with its category: in the code and in contracts."""
+from .child_fields import contract_named
 from .lines import code, contracts, uses
 from .tree import DECLARED, SPECS, asked_lines, by_enum_lines, enum_names, enum_uses
 
@@ -47,7 +48,9 @@ def contract_fields_lines(enum):
 
 def contract_fields_file(table):
     """Returns the functions of contracts that have the fields of kinds."""
-    brought = [*uses('Rattle.std.specs.Prelude.{List, [], ◌∷◌}', DECLARED + 'categories.Category.{Category}'),
+    brought = [*uses('Rattle.std.specs.Prelude.{ℕ, List, [], ◌∷◌, Option, Some, None}', DECLARED + 'categories.Category.{Category}'),
                *enum_uses(table, SPECS + 'FieldViews.{FieldView, %s}' % ', '.join(MADE.values()))]
-    doc = 'The fields of each kind that hold children, in their order, each with the category that may stand there.'
-    return contracts(doc, brought, *(contract_fields_lines(it) for it in table.enums), by_enum_lines(table, 'fields', 'List FieldView', 'fields'))
+    doc = """The fields that hold children: of each kind in their order, each with the category that may stand there; and by their names, of a kind
+without the field none."""
+    listed = [*(contract_fields_lines(it) for it in table.enums), by_enum_lines(table, 'fields', 'List FieldView', 'fields')]
+    return contracts(doc, brought, *listed, *contract_named(table))

@@ -20,8 +20,7 @@ def code_files(table):
 
 def contract_files(table):
     """Returns the files of contracts, each with its lines."""
-    made = {SYNTAX + 'Names': tree.contract_names_file, SYNTAX + 'Categories': categories.contract_categories_file,
-            SYNTAX + 'Fields': fields.contract_fields_file, SYNTAX + 'ChildFields': child_fields.contract_file,
+    made = {SYNTAX + 'Kinds': categories.contract_kinds_file, SYNTAX + 'Fields': fields.contract_fields_file,
             READER + 'KindTable': reader.kind_table_file, READER + 'KindShapesTable': reader.kind_shapes_table_file}
     return {name + '.antt': make(table) for name, make in made.items()}
 

@@ -137,7 +137,7 @@ def kind_shapes_table_file(table):
     held = ', '.join(it.held.split()[0] for it in SORTS.values())
     texts, names = (', '.join(it.small() + end for it in table.enums) for end in ('_kind_names_by_text', '_kind_name'))
     brought = uses('Rattle.std.specs.Prelude.{ℕ, List, [], ◌∷◌, Option, option_map, codes, string_bytes}', 'Rattle.serde_json.specs.Data.{Data}',
-                   SPECS + 'Names.{%s}' % names)
+                   SPECS + 'Kinds.{%s}' % names)
     brought += enum_uses(table, 'Rattle.symq_reader.specs.Kinds.{JsonFieldValue, %s, kind_name_by_text}' % held, 'Rattle.symq_reader.specs.KindTable.{%s}' % texts,
                          'Rattle.symq_reader.specs.KindShapes.{KindNameAndFieldValues, read_if_kind_named, identifier_view}')
     doc = """The kinds as they are read, by the enum that has them: each field of the tree's kinds under its key. The names in a row stand

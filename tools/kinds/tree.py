@@ -1,12 +1,12 @@
 """Generates the tree: the enums of kinds and their names, in the code and in contracts."""
-from .lines import code, contracts, space_all, uses
+from .lines import code, space_all, uses
 
 SPECS, DECLARED = 'Rattle.symbols_ast.specs.', 'Rattle.symbols_ast.specs.declared.tree.'
 
 
-def enum_names(table):
-    """Returns the enums of kinds and that of all of them, as a file of code imports them."""
-    return 'use crate::tree::kinds::{%s};' % ', '.join(sorted([*(it.name for it in table.enums), 'Kind']))
+def enum_names(table, within='crate::tree::kinds', *others):
+    """Returns the enums of kinds, that of all of them, and other names, as a file of code imports them."""
+    return 'use %s::{%s};' % (within, ', '.join(sorted([*(it.name for it in table.enums), 'Kind', *others])))
 
 
 def enum_uses(table, *others):
@@ -48,7 +48,7 @@ def name_of_lines(enum):
 def names_file(table):
     """Returns the file with the enum of names, and the methods that name kinds."""
     brought = ', '.join(['kind_name', *(it.small() + '_kind_name' for it in table.enums)])
-    ghosts = ['ghost use Rattle.std.specs.Prelude.{◌≡◌};', 'ghost use %sNames.{%s};' % (SPECS, brought)]
+    ghosts = ['ghost use Rattle.std.specs.Prelude.{◌≡◌};', 'ghost use %sKinds.{%s};' % (SPECS, brought)]
     names = ['/// The name of a kind: the kind without its fields.', '#[derive(Clone, Copy, Debug, PartialEq, Eq, Hash)]', 'pub enum KindName {',
              *('    %s,' % it.name for it in table.kinds()), '}']
     asked = ['impl Kind {', '    /// Returns the name of the kind.', '    pub fn name(&self) -> KindName',
@@ -69,8 +69,7 @@ def by_enum_lines(table, name, result, of):
     return ['abbrev pub %s : Kind → %s' % (name, result), *rows]
 
 
-def contract_names_file(table):
-    """Returns the functions of contracts that name kinds."""
-    brought = [*uses(DECLARED + 'names.KindName.{KindName}', DECLARED + 'names.KindName.TheVariants as Name'), *enum_uses(table)]
+def contract_names(table):
+    """Returns the functions of contracts that name kinds, as parts of a file."""
     whole = ['-- the kind without its fields', *by_enum_lines(table, 'kind_name', 'KindName', 'kind_name')]
-    return contracts('The names of the kinds.', brought, *(contract_names_lines(it) for it in table.enums), whole)
+    return [*(contract_names_lines(it) for it in table.enums), whole]

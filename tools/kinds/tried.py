@@ -16,16 +16,16 @@ SPOILT = [
     ('a name is left out', TREE + 'names.rt', ('    BigInt,\n', ''), 'text'),
     ('a kind has another name', TREE + 'names.rt', ('=> KindName::FnExpr', '=> KindName::FnDecl'), 'text'),
     ('another enum is asked', TREE + 'names.rt', ('=> decl.name()', '=> item.name()'), 'text'),
-    ('a kind of contracts has another name', SYNTAX + 'Names.antt', ('= Name.Arrow', '= Name.Assign'), 'text'),
-    ('a kind of contracts has a field more', SYNTAX + 'Names.antt', ('Ty.TsAsExpr _ _', 'Ty.TsAsExpr _ _ _'), 'text'),
-    ('another enum is asked in contracts', SYNTAX + 'Names.antt', ('= pat_kind_name k', '= ty_kind_name k'), 'text'),
+    ('a kind of contracts has another name', SYNTAX + 'Kinds.antt', ('= Name.Arrow', '= Name.Assign'), 'text'),
+    ('a kind of contracts has a field more', SYNTAX + 'Kinds.antt', ('Ty.TsAsExpr _ _', 'Ty.TsAsExpr _ _ _'), 'text'),
+    ('another enum is asked in contracts', SYNTAX + 'Kinds.antt', ('= pat_kind_name k', '= ty_kind_name k'), 'text'),
     ('a set lacks a kind', TREE + 'categories.rt', ('                | KindName::Computed\n', ''), 'text'),
     ('a set is of others', TREE + 'categories.rt', ('self.is_property_key() ||', 'self.is_ts_entity_name() ||'), 'text'),
     ('a category allows another kind', TREE + 'categories.rt', ('(name, KindName::TsTypeAnn)', '(name, KindName::Plain)'), 'text'),
     ('a category is left out', TREE + 'categories.rt', ('    /// A type parameter.\n    TypeParam,\n', ''), 'text'),
-    ('a function is not brought', TREE + 'categories.rt', (' is_type,', ''), 'text'),
-    ('a set of contracts has a kind more', SYNTAX + 'Categories.antt', ('is_property_key _', 'is_property_key Name.Arrow = true\nis_property_key _'), 'text'),
-    ('a category of contracts allows another kind', SYNTAX + 'Categories.antt',
+    ('a function is not brought', TREE + 'categories.rt', ('is_type, ', ''), 'text'),
+    ('a set of contracts has a kind more', SYNTAX + 'Kinds.antt', ('is_property_key _', 'is_property_key Name.Arrow = true\nis_property_key _'), 'text'),
+    ('a category of contracts allows another kind', SYNTAX + 'Kinds.antt',
      ('category_allows_kind Category.Class Name.Class ', 'category_allows_kind Category.Class Name.Other '), 'text'),
     ('a field has another category', TREE + 'fields.rt', ('one(Category::AssignLeft, left)', 'one(Category::Pattern, left)'),
      'text'),
@@ -37,8 +37,8 @@ SPOILT = [
     ('a method asks for another field', TREE + 'child_fields.rt', ('kind_fields::left_of_kind(', 'kind_fields::right_of_kind('), 'text'),
     ('a method of another name', TREE + 'child_fields.rt', ('pub fn body_node', 'pub fn block'), 'text'),
     ('a match of kinds lacks a kind', TREE + 'kind_fields.rt', ('            | Pat::ArrayPat { type_ann, .. }\n', ''), 'text'),
-    ('a function of kinds is not brought', TREE + 'kind_fields.rt', (' prop_children_of,', ''), 'text'),
-    ('a child stands in another place', SYNTAX + 'ChildFields.antt',
+    ('a function of kinds is not brought', TREE + 'kind_fields.rt', ('prop_children_of, ', ''), 'text'),
+    ('a child stands in another place', SYNTAX + 'Fields.antt',
      ('Item.TsImportEqualsDecl _ child _ _', 'Item.TsImportEqualsDecl _ _ child _'), 'text'),
     ('another field is read', KINDS + 'members.rt', ('"method_kind"', '"kind"'), 'text'),
     ('a text is another', KINDS + 'pats.rt', ('"Type" =>', '"Plain" =>'), 'text'),
@@ -86,24 +86,24 @@ CHANGED = [
     ('a text', ('    imported: optional text', '    original: optional text'),
      (TREE + 'kinds.rt', KINDS + 'items.rt', READER + 'KindTable.antt', READER + 'KindShapesTable.antt', *PAGES)),
     ('a child', ('    label: optional child', '    tag: optional child'), (TREE + 'kinds.rt', TREE + 'fields.rt', TREE + 'child_fields.rt',
-      TREE + 'kind_fields.rt', SYNTAX + 'Fields.antt', SYNTAX + 'ChildFields.antt', KINDS + 'tys.rt', READER + 'KindTable.antt',
+      TREE + 'kind_fields.rt', SYNTAX + 'Fields.antt', KINDS + 'tys.rt', READER + 'KindTable.antt',
       READER + 'KindShapesTable.antt', *PAGES)),
     ('a key', ('under method_kind', 'under sort'), (KINDS + 'members.rt', READER + 'KindTable.antt', READER + 'KindShapesTable.antt', *PAGES)),
     ('a sort', ('    declare: flag', '    declare: text'),
      (TREE + 'kinds.rt', KINDS + 'decls.rt', READER + 'KindTable.antt', READER + 'KindShapesTable.antt', *PAGES)),
     ('a sort of children', ('    super_class: optional child', '    super_class: child'), (TREE + 'kinds.rt', TREE + 'fields.rt',
-      TREE + 'kind_fields.rt', SYNTAX + 'Fields.antt', SYNTAX + 'ChildFields.antt', KINDS + 'decls.rt', READER + 'KindTable.antt',
+      TREE + 'kind_fields.rt', SYNTAX + 'Fields.antt', KINDS + 'decls.rt', READER + 'KindTable.antt',
       READER + 'KindShapesTable.antt', *PAGES)),
     ('the category of a field',
      ('    init: optional child of Expression\n\nkind TsModuleDecl', '    init: optional child of Key\n\nkind TsModuleDecl'),
      (TREE + 'fields.rt', SYNTAX + 'Fields.antt', *PAGES)),
     ('a set', ('    Ident, TsQualifiedName', '    Ident, Str, TsQualifiedName'),
-     (TREE + 'categories.rt', SYNTAX + 'Categories.antt', *PAGES)),
+     (TREE + 'categories.rt', SYNTAX + 'Kinds.antt', *PAGES)),
     ('a set that is unnamed in the page', ('ExportAll, TsImportEqualsDecl, TsExportAssignment', 'ExportAll, TsImportEqualsDecl'),
-     (TREE + 'categories.rt', SYNTAX + 'Categories.antt', *PAGES)),
+     (TREE + 'categories.rt', SYNTAX + 'Kinds.antt', *PAGES)),
     ('the order of a set', ('    Ident, TsQualifiedName', '    TsQualifiedName, Ident'),
-     (TREE + 'categories.rt', SYNTAX + 'Categories.antt')),
-    ('the comment of a set', ('set Element, tested by type_element: elements', 'set Element, tested by type_element: parts'), (TREE + 'categories.rt', SYNTAX + 'Categories.antt')),
+     (TREE + 'categories.rt', SYNTAX + 'Kinds.antt')),
+    ('the comment of a set', ('set Element, tested by type_element: elements', 'set Element, tested by type_element: parts'), (TREE + 'categories.rt', SYNTAX + 'Kinds.antt')),
     ('the comment of a category', ('Annotation: A type annotation.', 'Annotation: An annotation.'), (TREE + 'categories.rt',)),
     ('the comment of a kind', ('TsTypeAnn, tried first: A type annotation.', 'TsTypeAnn, tried first: An annotation.'), (TREE + 'kinds.rt',)),
     ('the comment of an enum', ('enum Pat: Patterns, other types', 'enum Pat: Patterns, types'),
@@ -113,7 +113,7 @@ CHANGED = [
     ('a function', ('read by number', 'read by num'), (KINDS + 'exprs.rt',)),
     ('a kind that is tried first', ('kind TsTypeQuery:', 'kind TsTypeQuery, tried first:'), (KINDS + 'tys.rt',)),
     ('a name in contracts', ('in contracts: children_field', 'in contracts: children_there'),
-     (TREE + 'child_fields.rt', TREE + 'kind_fields.rt', SYNTAX + 'ChildFields.antt')),
+     (TREE + 'child_fields.rt', TREE + 'kind_fields.rt', SYNTAX + 'Fields.antt')),
 ]
 
 # a change of the table, and why it is no table then
@@ -249,7 +249,7 @@ MADE = [
             Pat::TsSatisfiesExpressionOfConstructorParam { .. } =>
                 KindName::TsSatisfiesExpressionOfConstructorParam,
 """),
-    (SYNTAX + 'Names.antt', 'pat_kind_name (Pat.TsSatisfiesExpression _ _ _ _ _ _ _ _ _) = Name.TsSatisfiesExpression\n'),
+    (SYNTAX + 'Kinds.antt', 'pat_kind_name (Pat.TsSatisfiesExpression _ _ _ _ _ _ _ _ _) = Name.TsSatisfiesExpression\n'),
     (TREE + 'fields.rt', """            Pat::TsSatisfiesExpression {
                 expr,
                 ty,
@@ -268,8 +268,8 @@ MADE = [
                 how
             )],
 """),
-    (SYNTAX + 'Fields.antt', 'pat_fields (Pat.TsSatisfiesExpression expr ty how notes _ _ _ _ _) = field_of_one_child Category.Expression expr ∷ '
-     'field_of_one_child Category.Type ty ∷ field_of_optional_child Category.Reason how ∷ field_of_children Category.Reason notes.items ∷ []\n'),
+    (SYNTAX + 'Fields.antt', 'pat_fields (Pat.TsSatisfiesExpression expr ty how notes _ _ _ _ _) =\n    field_of_one_child Category.Expression expr ∷ '
+     'field_of_one_child Category.Type ty ∷ field_of_optional_child Category.Reason how ∷\n    field_of_children Category.Reason notes.items ∷ []\n'),
     (TREE + 'child_fields.rt', """    /// Returns the `how` of `TsSatisfiesExpression`, `TsSatisfiesExpressionOfConstructorParam`.
     pub fn how(self) -> Option<NodeRef<'a>>
         ensures { option_map node_view result ≡ child_in_field (node_view self.entry) how_child_of }
@@ -304,8 +304,8 @@ pub(crate) fn notes_of_kind(kind: &Kind) -> &[NodeId]
     }
 }
 """),
-    (TREE + 'child_fields.rt', 'arg_child_of, children_field_of, how_child_of, note_children_of};\n'),
-    (SYNTAX + 'ChildFields.antt', """abbrev pub how_child_of : Kind → Option ℕ
+    (TREE + 'child_fields.rt', 'arg_child_of, children_field_of, how_child_of};\nghost use Rattle.symbols_ast.specs.Fields.{note_children_of};\n'),
+    (SYNTAX + 'Fields.antt', """abbrev pub how_child_of : Kind → Option ℕ
 how_child_of (Kind.Pat (Pat.TsSatisfiesExpression _ _ child _ _ _ _ _ _)) = child
 how_child_of (Kind.Pat (Pat.TsSatisfiesExpressionOfConstructorParam child _)) = Some child
 how_child_of _ = None
@@ -324,15 +324,16 @@ how_child_of _ = None
                     | KindName::TsSatisfiesExpression
             ),
 """),
-    (SYNTAX + 'Categories.antt', """-- causes
+    (SYNTAX + 'Kinds.antt', """-- causes
 abbrev pub is_cause : KindName → Bool
 is_cause Name.TsSatisfiesExpression = true
 is_cause k = is_exportable_declaration k || is_constructor_param k
 """),
-    (SYNTAX + 'Categories.antt', 'category_allows_kind Category.Reason Name.TsSatisfiesExpression = true\ncategory_allows_kind Category.Reason _ = false\n'),
+    (SYNTAX + 'Kinds.antt', 'category_allows_kind Category.Reason Name.TsSatisfiesExpression = true\ncategory_allows_kind Category.Reason _ = false\n'),
     (KINDS + 'pats.rt', """/// The kind that the text calls `Satisfies`.
 fn satisfies(alloc: Global, object: &Object<'_, '_>) -> Result<Pat, FormatFault>
-    ensures { IsReadResult pat_name_and_field_values result (read_as_kind Name.TsSatisfiesExpression (object_data object.now)) }
+    ensures { IsReadResult pat_name_and_field_values result
+        (read_as_kind Name.TsSatisfiesExpression (object_data object.now)) }
 {
     Ok(Pat::TsSatisfiesExpression {
         expr: fields::child(object, "expr")?,
@@ -348,7 +349,8 @@ fn satisfies(alloc: Global, object: &Object<'_, '_>) -> Result<Pat, FormatFault>
 }
 """),
     (KINDS + 'pats.rt', """fn valued(alloc: Global, object: &Object<'_, '_>) -> Result<Pat, FormatFault>
-    ensures { IsReadResult pat_name_and_field_values result (read_as_kind Name.Valued (object_data object.now)) }
+    ensures { IsReadResult pat_name_and_field_values result
+        (read_as_kind Name.Valued (object_data object.now)) }
 {
     Ok(Pat::Valued {
         object: fields::text(alloc, object, "object")?,
@@ -366,9 +368,12 @@ fn satisfies(alloc: Global, object: &Object<'_, '_>) -> Result<Pat, FormatFault>
 """),
     (KINDS + 'pats.rt', 'use crate::member_keywords;\n'),
     (READER + 'KindTable.antt', '    (codes "Satisfies", Name.TsSatisfiesExpression) ∷\n'),
-    (READER + 'KindShapesTable.antt', '(codes "mark", holds_identifier (identifier_view mark)) ∷ (codes "method_kind", holds_method_kind sort) ∷ '
-     '(codes "access", holds_accessibility access) ∷ (codes "said", holds_optional_text (option_map string_bytes said)) ∷ '
-     '(codes "is_sure", holds_flag is_sure) ∷ []\n'),
+    (READER + 'KindShapesTable.antt', '(Pat.TsSatisfiesExpression expr ty how notes mark sort access said is_sure) =\n'
+     '    (codes "expr", holds_child expr) ∷ (codes "ty", holds_child ty) ∷ (codes "how", holds_optional_child how) ∷ '
+     '(codes "notes", holds_children notes.items) ∷\n'
+     '    (codes "mark", holds_identifier (identifier_view mark)) ∷ (codes "method_kind", holds_method_kind sort) ∷ '
+     '(codes "access", holds_accessibility access) ∷\n'
+     '    (codes "said", holds_optional_text (option_map string_bytes said)) ∷ (codes "is_sure", holds_flag is_sure) ∷ []\n'),
     (GRAPH, '| `Satisfies` | `expr satisfies ty` | `expr` Expression, `ty` Type, `how?` Reason, `notes*` Reason, `mark` name, '
      '`method_kind` method kind, `access?` access, `said?` text, `is_sure?` flag |\n'),
     (GRAPH, '| Annotation | `TsTypeAnn` |\n| Cause | ExportedDeclaration, ConstructorParam, `Satisfies` |\n'

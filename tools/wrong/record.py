@@ -8,7 +8,7 @@ from .crates import Crate, functions_of, kit, libraries_below, read, write
 from .rooms import OF_FUNCTIONS, Room
 
 # the edits whose hashes fit are tried in so many turns
-TURNS = 6
+TURNS = 12
 # a character literal, so that a quote in it opens no string
 QUOTED = re.compile(r"""'"'|\\.""")
 

@@ -1,11 +1,4 @@
-//! The graph of the calls, and the queries over it.
-
-use deno_symbols::deps::{ResolveDepsMode, SymbolNodeDep};
-use deno_symbols::ids::SymbolId;
-use deno_symbols::queries::Query;
-use deno_symbols::tree::Id;
-use std::alloc::{AllocError, Global};
-use std::borrow::CowStr;
+//! The graph of the calls.
 
 /// `a` exports `x` locally and has `export *` from `b` and `c`. These export `y` locally, and `b`
 /// has `export *` from `a`. `q` imports `y` from `a`, and a name that is unresolved.
@@ -64,50 +57,3 @@ pub(crate) const GRAPH: &str = r#"{"modules": [
 
 /// The specifiers of its modules, in the order in which the queries need them.
 pub(crate) const SPECIFIERS: [&str; 4] = ["a", "b", "c", "q"];
-
-/// Returns the reference `import("./a").z`.
-fn reference(alloc: Global) -> Result<SymbolNodeDep<'static>, AllocError> {
-    let mut parts = Vec::new(alloc);
-    parts.push(CowStr::Borrowed("z"))?;
-    Ok(SymbolNodeDep::ImportType("./a", parts))
-}
-
-/// The modules of the queries, in their order. The first specifier resolves to no module.
-const QUERIED: [&str; 11] = ["absent", "a", "a", "b", "a", "b", "q", "q", "q", "q", "q"];
-
-/// Returns the name `x` of scope 1.
-fn name_x(alloc: Global) -> Result<Id, AllocError> {
-    Ok(Id {
-        name: String::from_str(alloc, "x")?,
-        scope: 1,
-    })
-}
-
-/// Returns the query with this index, on its module. Symbol 1 of `q` is `y`, 2 is `w` and 3 is `v`;
-/// symbol 2 of `b` is `y`.
-fn query(alloc: Global, index: usize, module: &'static str) -> Result<Query<'static>, AllocError> {
-    let first = SymbolId::from_number(1);
-    let second = SymbolId::from_number(2);
-    let third = SymbolId::from_number(3);
-    Ok(match index {
-        2 => Query::Symbol(module, name_x(alloc)?),
-        3 => Query::Name(module, second),
-        4 => Query::Exports(module),
-        5 => Query::Names(module),
-        6 => Query::Deps(module, third, ResolveDepsMode::TypesAndExpressions),
-        7 => Query::Paths(module, first),
-        8 => Query::Definitions(module, first),
-        9 => Query::Leaves(module, second),
-        10 => Query::Resolve(module, reference(alloc)?),
-        _ => Query::Module(module),
-    })
-}
-
-/// Returns a query of each form, and one on a module that doesn't exist.
-pub(crate) fn queries(alloc: Global) -> Result<Vec<Query<'static>>, AllocError> {
-    let mut queries = Vec::new(alloc);
-    for (index, module) in QUERIED.iter().enumerate() {
-        queries.push(query(alloc, index, *module)?)?;
-    }
-    Ok(queries)
-}

@@ -3,13 +3,13 @@
 //! that fails is repeated once.
 #![tactic(auto)]
 
-mod answers;
 mod graph;
+mod queries;
 mod tables;
 mod views;
 
-use crate::answers::{Lines, print_each};
-use crate::graph::{GRAPH, queries};
+use crate::graph::GRAPH;
+use crate::queries::{Lines, print_each, queries};
 use crate::tables::print_stored;
 use crate::views::print_views;
 use anyhow::Result;

@@ -1,10 +1,5 @@
-pub mod Questions
 pub mod Inputs
-pub mod Answers
 pub mod Seen
-pub mod QueryReach
-pub mod InputLists
-pub mod QueryAnswers
-pub mod Meanings
-pub mod Stored
+pub mod Questions
+pub mod Answers
 pub mod laws

@@ -1,11 +1,9 @@
-pub mod Names
-pub mod Categories
+pub mod Kinds
 pub mod FieldViews
 pub mod Fields
 pub mod Nodes
 pub mod NodeRefs
 pub mod Ids
-pub mod ChildFields
 pub mod Shapes
 pub mod TreeFaults
 pub mod WellFormed

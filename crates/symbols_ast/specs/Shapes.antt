@@ -9,8 +9,7 @@ use Rattle.symbols_ast.specs.declared.tree.kinds.Item.TheVariants as Item
 use Rattle.symbols_ast.specs.declared.tree.kinds.Member.TheVariants as Member
 use Rattle.symbols_ast.specs.declared.tree.kinds.Pat.TheVariants as Pat
 use Rattle.symbols_ast.specs.declared.tree.kinds.Expr.TheVariants as Expr
-use Rattle.symbols_ast.specs.Names.{kind_name}
-use Rattle.symbols_ast.specs.Categories.{category_allows_kind}
+use Rattle.symbols_ast.specs.Kinds.{kind_name, category_allows_kind}
 use Rattle.symbols_ast.specs.FieldViews.{FieldView}
 use Rattle.symbols_ast.specs.Fields.{fields}
 use Rattle.symbols_ast.specs.Nodes.{kind_at}

@@ -43,3 +43,6 @@ pub types_are_subsequence : (mode : ResolveDepsMode) (starts : List ReferenceGra
 unfolding dependencies_of_all_occurrences
 types_are_subsequence mode starts = subsequence_mapped dependency_of_occurrence _ _
     (fewer_among_all reference_graph mode In.Value starts _ _ (listed_are mode starts) (listed_are TypesAndExpressions starts))
+
+-- What is promised of the list of a declaration.
+pub ruleset dependency_lists = (types_are_subsequence, has_exactly)

@@ -5,3 +5,4 @@ pub mod StepLemmas
 pub mod WholeLists
 pub mod VisitLists
 pub mod DependencyLists
+pub use Rattle.symbols_deps.proofs.KnownLemmas.{unnamed_none}

@@ -7,9 +7,8 @@ use Rattle.symbols_ast.specs.declared.tree.kinds.Kind.{Kind}
 use Rattle.symbols_ast.specs.declared.tree.kinds.Decl.TheVariants as Decl
 use Rattle.symbols_ast.specs.declared.tree.kinds.Expr.TheVariants as Expr
 use Rattle.symbols_ast.specs.declared.tree.kinds.Pat.TheVariants as Pat
-use Rattle.symbols_ast.specs.Categories.{category_allows_kind}
-use Rattle.symbols_ast.specs.ChildFields.{class_child_of, function_child_of, decl_child_of}
-use Rattle.symbols_ast.specs.Names.{kind_name}
+use Rattle.symbols_ast.specs.Kinds.{category_allows_kind, kind_name}
+use Rattle.symbols_ast.specs.Fields.{class_child_of, function_child_of, decl_child_of}
 use Rattle.symbols_ast.specs.NodeRefs.{TreeNode, kind_of, child_in_field}
 use Rattle.symbols_nodes.specs.declared.deps.dep.ReferenceNamespace.{ReferenceNamespace}
 use Rattle.symbols_nodes.specs.declared.deps.dep.ReferenceNamespace.TheVariants as In

@@ -60,8 +60,8 @@ impl<'a> Visit<'a> {
     #[inline(never)]
     fn visit_statement(self, decl: &Decl, found: &mut Found<'a>) -> Result<(), AllocError>
         ensures { OnOk result (map namespaced_reference_view found.new.items
-            ≡ map namespaced_reference_view found.old.items
-            ++ dependencies_of_visited_edges self.entry (other_decl_edges (node_view self.entry.node) decl.now)) }
+            ≡ map namespaced_reference_view found.old.items ++ dependencies_of_visited_edges
+            self.entry (other_decl_edges (node_view self.entry.node) decl.now)) }
     {
         let open = EdgeRuleSet::open();
         match decl {
@@ -104,8 +104,8 @@ impl<'a> Visit<'a> {
     #[inline(never)]
     fn visit_function(self, decl: &Decl, found: &mut Found<'a>) -> Result<(), AllocError>
         ensures { OnOk result (map namespaced_reference_view found.new.items
-            ≡ map namespaced_reference_view found.old.items
-            ++ dependencies_of_visited_edges self.entry (function_edges (node_view self.entry.node) decl.now)) }
+            ≡ map namespaced_reference_view found.old.items ++ dependencies_of_visited_edges
+            self.entry (function_edges (node_view self.entry.node) decl.now)) }
     {
         let open = EdgeRuleSet::open();
         match decl {
@@ -136,8 +136,8 @@ impl<'a> Visit<'a> {
     #[inline(never)]
     fn visit_class(self, decl: &Decl, found: &mut Found<'a>) -> Result<(), AllocError>
         ensures { OnOk result (map namespaced_reference_view found.new.items
-            ≡ map namespaced_reference_view found.old.items
-            ++ dependencies_of_visited_edges self.entry (class_edges (node_view self.entry.node) decl.now)) }
+            ≡ map namespaced_reference_view found.old.items ++ dependencies_of_visited_edges
+            self.entry (class_edges (node_view self.entry.node) decl.now)) }
     {
         let open = EdgeRuleSet::open();
         match decl {
@@ -170,8 +170,8 @@ impl<'a> Visit<'a> {
     #[inline(always)]
     pub(crate) fn visit_decl(self, decl: &Decl, found: &mut Found<'a>) -> Result<(), AllocError>
         ensures { OnOk result (map namespaced_reference_view found.new.items
-            ≡ map namespaced_reference_view found.old.items
-            ++ dependencies_of_visited_edges self.entry (decl_edges (node_view self.entry.node) decl.now)) }
+            ≡ map namespaced_reference_view found.old.items ++ dependencies_of_visited_edges
+            self.entry (decl_edges (node_view self.entry.node) decl.now)) }
     {
         match decl {
             Decl::ClassDecl { .. } | Decl::ClassExpr { .. } | Decl::Class { .. } => {
@@ -301,8 +301,8 @@ impl<'a> Visit<'a> {
     #[inline(always)]
     pub(crate) fn visit_ty(self, ty: &Ty, found: &mut Found<'a>) -> Result<(), AllocError>
         ensures { OnOk result (map namespaced_reference_view found.new.items
-            ≡ map namespaced_reference_view found.old.items ++ dependencies_of_visited_edges self.entry
-            (ty_edges ty.now)) }
+            ≡ map namespaced_reference_view found.old.items
+            ++ dependencies_of_visited_edges self.entry (ty_edges ty.now)) }
     {
         let open = EdgeRuleSet::open();
         let of_types = EdgeRuleSet::marking(ReferenceNamespace::Type);
@@ -397,8 +397,8 @@ impl<'a> Visit<'a> {
         requires refers { refers ≡ is_some (reference_of_node (node_view self.node)) }
         requires known { IsKnownFactTrueOf known (node_view self.node) }
         ensures { OnOk result (map namespaced_reference_view found.new.items
-            ≡ map namespaced_reference_view found.old.items ++ dependencies_of_visited_edges self.entry
-            (edges_of_node_in_context (node_view self.entry.node) form refers
+            ≡ map namespaced_reference_view found.old.items ++ dependencies_of_visited_edges
+            self.entry (edges_of_node_in_context (node_view self.entry.node) form refers
             (has_type_annotation (node_view self.entry.node)) kind.now)) }
     {
         match kind {

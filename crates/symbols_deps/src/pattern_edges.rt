@@ -43,8 +43,8 @@ impl<'a> Visit<'a> {
         requires kind { IsPatNode (node_view self.node) pat.now }
         requires known { IsKnownFactTrueOf known (node_view self.node) }
         ensures { OnOk result (map namespaced_reference_view found.new.items
-            ≡ map namespaced_reference_view found.old.items ++ dependencies_of_visited_edges self.entry (pat_edges
-            (has_type_annotation (node_view self.entry.node)) pat.now)) }
+            ≡ map namespaced_reference_view found.old.items ++ dependencies_of_visited_edges
+            self.entry (pat_edges (has_type_annotation (node_view self.entry.node)) pat.now)) }
     {
         let open = EdgeRuleSet::open();
         let by_kind = open.with_namespace_rule(NamespaceRule::ByKind);
@@ -90,9 +90,9 @@ impl<'a> Visit<'a> {
         requires kind { IsPatNode (node_view self.node) pat.now }
         requires known { IsKnownFactTrueOf known (node_view self.node) }
         ensures { OnOk result (map namespaced_reference_view found.new.items
-            ≡ map namespaced_reference_view found.old.items ++ dependencies_of_visited_edges self.entry
-            (signature_pattern_edges
-            (has_type_annotation (node_view self.entry.node)) pat.now)) }
+            ≡ map namespaced_reference_view found.old.items
+            ++ dependencies_of_visited_edges self.entry
+            (signature_pattern_edges (has_type_annotation (node_view self.entry.node)) pat.now)) }
     {
         let open = EdgeRuleSet::open();
         match pat {
@@ -129,9 +129,9 @@ impl<'a> Visit<'a> {
         requires kind { IsPatNode (node_view self.node) pat.now }
         requires known { IsKnownFactTrueOf known (node_view self.node) }
         ensures { OnOk result (map namespaced_reference_view found.new.items
-            ≡ map namespaced_reference_view found.old.items ++ dependencies_of_visited_edges self.entry
-            (param_prop_edges (node_view self.entry.node) (has_type_annotation (node_view self.entry.node))
-            pat.now)) }
+            ≡ map namespaced_reference_view found.old.items ++ dependencies_of_visited_edges
+            self.entry (param_prop_edges (node_view self.entry.node)
+            (has_type_annotation (node_view self.entry.node)) pat.now)) }
     {
         let open = EdgeRuleSet::open();
         match pat {

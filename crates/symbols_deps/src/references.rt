@@ -86,15 +86,15 @@ fn imported<'a>(
 }
 
 /// Returns the reference that the node is, if it is one.
-#[tactic(auto, using(crate::proofs::KnownLemmas::unnamed_none), unfolding(symbols_nodes::specs::References::reference_of_node))]
+#[tactic(auto, using(crate::proofs::unnamed_none), unfolding(symbols_nodes::specs::References::reference_of_node))]
 pub(crate) fn reference_of_node<'a>(
     alloc: Global,
     node: NodeRef<'a>,
     known: KnownFact,
 ) -> Result<Option<SymbolNodeDep<'a>>, AllocError>
     requires { IsKnownFactTrueOf known (node_view node) }
-    ensures { IfOk result
-        (λ reference. option_map reference_view reference ≡ reference_of_node (node_view node.entry)) }
+    ensures { IfOk result (λ reference. option_map reference_view reference
+        ≡ reference_of_node (node_view node.entry)) }
 {
     match node.kind() {
         Kind::Expr(Expr::Ident { sym }) => Ok(Some(SymbolNodeDep::Id(sym))),
@@ -139,7 +139,8 @@ pub(crate) fn push_name<'a>(
     namespace: ReferenceNamespace,
     found: &mut Found<'a>,
 ) -> Result<(), AllocError>
-    ensures { OnOk result (map namespaced_reference_view found.new.items ≡ map namespaced_reference_view found.old.items
+    ensures { OnOk result (map namespaced_reference_view found.new.items
+        ≡ map namespaced_reference_view found.old.items
         ++ dependency_in_namespace namespace (id (id_view sym.now)) ∷ []) }
 {
     found.push((SymbolNodeDep::Id(sym), namespace))?;

@@ -63,17 +63,19 @@ fn first_parts<'a>(
 }
 
 impl<'a> ResolveDeps<'a> for ExportDeclRef<'a> {
-    #[tactic(auto, using(crate::proofs::DependencyLists::types_are_subsequence, crate::proofs::DependencyLists::has_exactly))]
+    #[tactic(auto, using(crate::proofs::DependencyLists::dependency_lists))]
     fn deps_with_namespace(
         &self,
         alloc: Global,
         mode: ResolveDepsMode,
     ) -> Result<Vec<(SymbolNodeDep<'a>, ReferenceNamespace)>, AllocError>
         ensures list { IfOk result (λ list. AreDependenciesOfAllOccurrences mode
-            (steps_of_exported_decl (export_decl_view self.now)) (map namespaced_reference_view list.items)) }
+            (steps_of_exported_decl (export_decl_view self.now))
+            (map namespaced_reference_view list.items)) }
         ensures value { IfOk result (λ list. map namespaced_reference_view list.items
             ≡ dependencies_of_exported_decl mode (export_decl_view self.now)) }
-        ensures subsequence { IsSubsequence (dependencies_of_exported_decl mode (export_decl_view self.now))
+        ensures subsequence { IsSubsequence
+            (dependencies_of_exported_decl mode (export_decl_view self.now))
             (dependencies_of_exported_decl TypesAndExpressions (export_decl_view self.now)) }
     {
         let mut found = Vec::new(alloc);
@@ -97,7 +99,7 @@ impl<'a> ResolveDeps<'a> for ExportDeclRef<'a> {
 }
 
 impl<'a> ResolveDeps<'a> for SymbolNodeRef<'a> {
-    #[tactic(auto, using(crate::proofs::DependencyLists::types_are_subsequence, crate::proofs::DependencyLists::has_exactly))]
+    #[tactic(auto, using(crate::proofs::DependencyLists::dependency_lists))]
     fn deps_with_namespace(
         &self,
         alloc: Global,
@@ -137,8 +139,8 @@ impl<'a> ResolveDeps<'a> for SymbolDecl<'a> {
         alloc: Global,
         mode: ResolveDepsMode,
     ) -> Result<Vec<(SymbolNodeDep<'a>, ReferenceNamespace)>, AllocError>
-        ensures { IfOk result
-            (λ deps. map namespaced_reference_view deps.items ≡ decl_dependencies mode (decl_view self.now)) }
+        ensures { IfOk result (λ deps. map namespaced_reference_view deps.items
+            ≡ decl_dependencies mode (decl_view self.now)) }
     {
         match self.maybe_node() {
             Some(node) => node.deps_with_namespace(alloc, mode),
@@ -152,7 +154,8 @@ impl<'a> ResolveDeps<'a> for SymbolDecl<'a> {
         mode: ResolveDepsMode,
     ) -> Result<Vec<SymbolNodeDep<'a>>, AllocError>
         ensures { IfOk result (λ deps. map reference_view deps.items
-            ≡ map (λ (d : NamespacedReference). d.reference) (decl_dependencies mode (decl_view self.now))) }
+            ≡ map (λ (d : NamespacedReference). d.reference)
+            (decl_dependencies mode (decl_view self.now))) }
     {
         match self.maybe_node() {
             Some(node) => node.deps(alloc, mode),

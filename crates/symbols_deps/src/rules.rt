@@ -4,8 +4,7 @@
 
 ghost use Rattle.std.specs.Prelude.{◌≡◌, ◌||◌, not};
 ghost use Rattle.symbols_ast.specs.declared.tree.categories.Category.TheVariants as Category;
-ghost use Rattle.symbols_ast.specs.Categories.{category_allows_kind};
-ghost use Rattle.symbols_ast.specs.Names.{kind_name};
+ghost use Rattle.symbols_ast.specs.Kinds.{category_allows_kind, kind_name};
 ghost use Rattle.symbols_deps.specs.Dependencies.{is_computed_key, is_rest_pattern};
 ghost use Rattle.symbols_deps.specs.Dependencies.{signature_context_if};
 ghost use Rattle.symbols_deps.specs.Dependencies.{pattern_context_of, value_namespace_if};
@@ -110,7 +109,8 @@ impl EdgeRuleSet {
     /// Returns whether the edge to a child of a kind is followed in the mode.
     #[inline(always)]
     pub(crate) fn is_step_followed_in_mode(self, mode: ResolveDepsMode, kind: &Kind) -> bool
-        ensures { result ≡ (visits_expressions mode || not (is_guard_for_expressions_mode self.guard kind.now)) }
+        ensures { result
+            ≡ (visits_expressions mode || not (is_guard_for_expressions_mode self.guard kind.now)) }
     {
         mode.visit_exprs() || !self.guard.needs_expressions(kind)
     }

@@ -3,7 +3,7 @@
 ghost use Rattle.std.specs.Prelude.{◌≡◌, ◌++◌, map, OnOk, [], Option};
 ghost use Rattle.std.specs.Option.{option_map, option_map_or};
 ghost use Rattle.symbols_ast.specs.NodeRefs.{TreeNode, node_view, kind_of, child_in_field};
-ghost use Rattle.symbols_ast.specs.ChildFields.{decl_child_of};
+ghost use Rattle.symbols_ast.specs.Fields.{decl_child_of};
 ghost use Rattle.symbols_deps.specs.Dependencies.{dependencies_of_all_occurrences, steps_from_node};
 ghost use Rattle.symbols_deps.specs.Dependencies.{steps_from_function_child, steps_of_exported_decl};
 ghost use Rattle.symbols_deps.specs.Dependencies.{steps_of_default_export, start_steps_of_decl, start_edge_steps};
@@ -110,8 +110,8 @@ fn push_child<'a>(
     found: &mut Found<'a>,
 ) -> Result<(), AllocError>
     ensures { OnOk result (map namespaced_reference_view found.new.items
-        ≡ map namespaced_reference_view found.old.items
-        ++ dependencies_of_all_occurrences mode (option_map_or steps_from_node (option_map node_view child.entry) [])) }
+        ≡ map namespaced_reference_view found.old.items ++ dependencies_of_all_occurrences mode
+        (option_map_or steps_from_node (option_map node_view child.entry) [])) }
 {
     match child {
         Some(child) => push_node(alloc, mode, child, found),
@@ -128,8 +128,8 @@ pub(crate) fn push_exported<'a>(
     found: &mut Found<'a>,
 ) -> Result<(), AllocError>
     ensures { OnOk result (map namespaced_reference_view found.new.items
-        ≡ map namespaced_reference_view found.old.items
-        ++ dependencies_of_all_occurrences mode (steps_of_exported_decl (export_decl_view decl.entry))) }
+        ≡ map namespaced_reference_view found.old.items ++ dependencies_of_all_occurrences mode
+        (steps_of_exported_decl (export_decl_view decl.entry))) }
 {
     match decl {
         ExportDeclRef::Class(node) => push_child(alloc, mode, node.class(), found),
@@ -151,8 +151,8 @@ fn push_default<'a>(
     found: &mut Found<'a>,
 ) -> Result<(), AllocError>
     ensures { OnOk result (map namespaced_reference_view found.new.items
-        ≡ map namespaced_reference_view found.old.items ++ dependencies_of_all_occurrences mode (steps_of_default_export
-        (node_view decl.entry) (kind_of (node_view decl.entry)))) }
+        ≡ map namespaced_reference_view found.old.items ++ dependencies_of_all_occurrences mode
+        (steps_of_default_export (node_view decl.entry) (kind_of (node_view decl.entry)))) }
 {
     match decl.kind() {
         Kind::Decl(Decl::ClassExpr { .. }) => push_child(alloc, mode, decl.class(), found),
@@ -190,8 +190,9 @@ fn push_method<'a>(
     found: &mut Found<'a>,
 ) -> Result<(), AllocError>
     ensures { OnOk result (map namespaced_reference_view found.new.items
-        ≡ map namespaced_reference_view found.old.items ++ dependencies_of_all_occurrences mode
-        (start_edge_steps (node_view node.entry) ++ steps_from_function_child (node_view node.entry))) }
+        ≡ map namespaced_reference_view found.old.items
+        ++ dependencies_of_all_occurrences mode (start_edge_steps (node_view node.entry)
+        ++ steps_from_function_child (node_view node.entry))) }
 {
     push_first(alloc, mode, node, found)?;
     push_child(alloc, mode, node.function(), found)
@@ -206,8 +207,8 @@ pub(crate) fn push_dependencies<'a>(
     found: &mut Found<'a>,
 ) -> Result<(), AllocError>
     ensures { OnOk result (map namespaced_reference_view found.new.items
-        ≡ map namespaced_reference_view found.old.items
-        ++ dependencies_of_all_occurrences mode (start_steps_of_decl (symbol_node_view node.entry))) }
+        ≡ map namespaced_reference_view found.old.items ++ dependencies_of_all_occurrences mode
+        (start_steps_of_decl (symbol_node_view node.entry))) }
 {
     match node {
         SymbolNodeRef::Module(_) | SymbolNodeRef::TsNamespace(_) => Ok(()),

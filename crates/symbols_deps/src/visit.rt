@@ -73,8 +73,8 @@ impl<'a> Visit<'a> {
     ) -> Result<(), AllocError>
         requires { IsKnownFactTrueOf known (node_view node) }
         ensures { OnOk result (map namespaced_reference_view found.new.items
-            ≡ map namespaced_reference_view found.old.items
-            ++ dependencies_at_and_after_vertex mode namespace (vertex_of_node (node_view node.entry) form)) }
+            ≡ map namespaced_reference_view found.old.items ++ dependencies_at_and_after_vertex
+            mode namespace (vertex_of_node (node_view node.entry) form)) }
     {
         let kind = node.kind();
         let refers = push_reference(alloc, node, kind, known, namespace, found)?;
@@ -100,8 +100,8 @@ impl<'a> Visit<'a> {
         found: &mut Found<'a>,
     ) -> Result<(), AllocError>
         ensures { OnOk result (map namespaced_reference_view found.new.items
-            ≡ map namespaced_reference_view found.old.items
-            ++ dependencies_at_and_after_vertex mode namespace (vertex_of_node (node_view node.entry) form)) }
+            ≡ map namespaced_reference_view found.old.items ++ dependencies_at_and_after_vertex
+            mode namespace (vertex_of_node (node_view node.entry) form)) }
     {
         let visit = Visit {
             alloc,
@@ -136,12 +136,13 @@ impl<'a> Visit<'a> {
     /// Returns the child of a number, if it exists and the edge to it is followed in the mode.
     #[inline(always)]
     fn open_child(self, rules: EdgeRuleSet, id: NodeId) -> Option<Child<'a>>
-        ensures there { IfSome result
-            (λ child. node_of_greater_number (node_view self.entry.node) id ≡ Some (node_view child.node)) }
+        ensures there { IfSome result (λ child. node_of_greater_number
+            (node_view self.entry.node) id ≡ Some (node_view child.node)) }
         ensures below { IfSome result (λ child. self.entry.node.number < child.node.number) }
         ensures same_tree { IfSome result
             (λ child. child.node.tree.now ≡ self.entry.node.tree.now) }
-        ensures closed { result ≡ None → dependencies_of_visited_edge self.entry (edge_to_child rules id) ≡ [] }
+        ensures closed { result ≡ None
+            → dependencies_of_visited_edge self.entry (edge_to_child rules id) ≡ [] }
         ensures reaches { IfSome result
             (λ child. dependencies_of_visited_edge self.entry (edge_to_child rules id) ≡
             dependencies_at_and_after_child self.entry.mode child) }
@@ -185,8 +186,8 @@ impl<'a> Visit<'a> {
     /// it is neither.
     #[inline(always)]
     fn only_name_at(self, form: PatternContext) -> Option<(&'a Id, ReferenceNamespace)>
-        ensures { IfSome result (λ name. dependencies_at_and_after_vertex self.entry.mode self.entry.namespace
-            (vertex_of_node (node_view self.entry.node) form)
+        ensures { IfSome result (λ name. dependencies_at_and_after_vertex
+            self.entry.mode self.entry.namespace (vertex_of_node (node_view self.entry.node) form)
             ≡ dependency_in_namespace name.1 (id (id_view name.0.now)) ∷ []) }
     {
         match self.node.kind() {
@@ -205,8 +206,8 @@ impl<'a> Visit<'a> {
     #[inline(always)]
     fn visit_at(self, child: Child<'a>, found: &mut Found<'a>) -> Result<(), AllocError>
         ensures { OnOk result (map namespaced_reference_view found.new.items
-            ≡ map namespaced_reference_view found.old.items ++ dependencies_at_and_after_child self.entry.mode
-            child.entry) }
+            ≡ map namespaced_reference_view found.old.items
+            ++ dependencies_at_and_after_child self.entry.mode child.entry) }
     {
         let Child {
             node,
@@ -242,8 +243,8 @@ impl<'a> Visit<'a> {
         requires { (child : TreeNode) → node_of_greater_number (node_view self.node) id ≡ Some child
             → IsKnownFactTrueOf known child }
         ensures { OnOk result (map namespaced_reference_view found.new.items
-            ≡ map namespaced_reference_view found.old.items ++ dependencies_of_visited_edge self.entry
-            (edge_to_child rules id)) }
+            ≡ map namespaced_reference_view found.old.items
+            ++ dependencies_of_visited_edge self.entry (edge_to_child rules id)) }
     {
         let Some(child) = self.open_child(rules, id) else {
             return Ok(());
@@ -266,8 +267,8 @@ impl<'a> Visit<'a> {
         found: &mut Found<'a>,
     ) -> Result<(), AllocError>
         ensures { OnOk result (map namespaced_reference_view found.new.items
-            ≡ map namespaced_reference_view found.old.items ++ dependencies_of_visited_edge self.entry
-            (edge_to_child rules id)) }
+            ≡ map namespaced_reference_view found.old.items
+            ++ dependencies_of_visited_edge self.entry (edge_to_child rules id)) }
     {
         match self.open_child(rules, id) {
             Some(child) => self.visit_at(child, found),
@@ -280,8 +281,8 @@ impl<'a> Visit<'a> {
     #[inline(always)]
     pub(crate) fn visit_type(self, ty: NodeId, found: &mut Found<'a>) -> Result<(), AllocError>
         ensures { OnOk result (map namespaced_reference_view found.new.items
-            ≡ map namespaced_reference_view found.old.items
-            ++ dependencies_of_visited_edge self.entry (edge_to_child (edge_rules_marking_namespace In.Type) ty)) }
+            ≡ map namespaced_reference_view found.old.items ++ dependencies_of_visited_edge
+            self.entry (edge_to_child (edge_rules_marking_namespace In.Type) ty)) }
     {
         self.visit_child(EdgeRuleSet::marking(ReferenceNamespace::Type), ty, found)
     }
@@ -297,8 +298,8 @@ impl<'a> Visit<'a> {
         found: &mut Found<'a>,
     ) -> Result<(), AllocError>
         ensures { OnOk result (map namespaced_reference_view found.new.items
-            ≡ map namespaced_reference_view found.old.items ++ dependencies_of_visited_edge self.entry
-            (edge_to_child rules id)) }
+            ≡ map namespaced_reference_view found.old.items
+            ++ dependencies_of_visited_edge self.entry (edge_to_child rules id)) }
     {
         let Some(child) = self.open_child(rules, id) else {
             return Ok(());
@@ -328,8 +329,8 @@ impl<'a> Visit<'a> {
         found: &mut Found<'a>,
     ) -> Result<(), AllocError>
         ensures { OnOk result (map namespaced_reference_view found.new.items
-            ≡ map namespaced_reference_view found.old.items ++ dependencies_of_visited_edge self.entry
-            (edge_to_optional_child rules id)) }
+            ≡ map namespaced_reference_view found.old.items
+            ++ dependencies_of_visited_edge self.entry (edge_to_optional_child rules id)) }
     {
         match id {
             Some(id) => self.visit_child(rules, id, found),
@@ -346,8 +347,8 @@ impl<'a> Visit<'a> {
         found: &mut Found<'a>,
     ) -> Result<(), AllocError>
         ensures { OnOk result (map namespaced_reference_view found.new.items
-            ≡ map namespaced_reference_view found.old.items
-            ++ dependencies_of_visited_edge self.entry (edge_to_optional_child default_edge_rules id)) }
+            ≡ map namespaced_reference_view found.old.items ++ dependencies_of_visited_edge
+            self.entry (edge_to_optional_child default_edge_rules id)) }
     {
         let Some(id) = id else {
             return Ok(());

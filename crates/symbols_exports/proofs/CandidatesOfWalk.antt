@@ -143,6 +143,9 @@ nothing_explicit re_exports exporter walk = λ i.
     by true = refl
     by false = refl
 
+-- collecting the local exports of a module, one after the other
+pub ruleset explicit_in_order = (explicit_first, nothing_explicit)
+
 -- the candidates of a module along a chain, if the filter and the rules store candidates
 abbrev pub candidates_for : NameFilter → RootView → List (ModuleId × List ℕ) → ModuleId → List ResolvedExportView
 candidates_for name_filter root re_exports exporter =

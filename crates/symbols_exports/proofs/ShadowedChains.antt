@@ -299,6 +299,9 @@ shared_after entry entries traces lists shared after more is pushed named export
     ∙ (ap (λ v. resolved_shared_name_views shared ++ v ∷ groups_of_several_first_along_star is_along_stars (groups_of_first_and_later_chains entries lists))
     view ∙ rw is refl)))
 
+-- a name after the others, whether it is shared or not
+pub ruleset next_shared_name = (one_trace_each, passed_over, shared_after)
+
 -- if no lists are left, no later name is shared
 pub none_left : (entries : List NameEntry) (lists : List (List ExportChain)) (shared all : List (NameWithExporters ResolvedExportView))
     → shared ++ groups_of_several_first_along_star is_along_stars (groups_of_first_and_later_chains entries lists) ≡ all → lists ≡ [] → shared ≡ all

@@ -135,7 +135,7 @@ impl<'a> CollectedExports<'a> {
     }
 
     /// Adds the local exports of a module, in order.
-    #[tactic(auto, using(crate::proofs::CandidatesOfWalk::explicit_first, crate::proofs::CandidatesOfWalk::nothing_explicit))]
+    #[tactic(auto, using(crate::proofs::CandidatesOfWalk::explicit_in_order))]
     fn add_module_names(
         &mut self,
         alloc: Global,
@@ -195,7 +195,8 @@ impl<'a> CollectedExports<'a> {
 
     /// Adds a statement that resolves to no module.
     pub(crate) fn collect_unresolved(&mut self, frame: Frame<'a>) -> Result<(), AllocError>
-        ensures { OnOk result (self.new ≡ walk_with_unresolved_star (frame_view frame.entry) self.old) }
+        ensures { OnOk result (self.new
+            ≡ walk_with_unresolved_star (frame_view frame.entry) self.old) }
     {
         self.unresolved.push(frame.unresolved())?;
         Ok(())

@@ -212,8 +212,8 @@ pub fn exports_counted<'a>(
         (resolved_export_views answer.resolved.entries) (resolved_shared_name_views
         answer.shared.items)
         (map unresolved_star_view answer.unresolved_specifiers.items) lookups) }
-    ensures faults { IfErr result (λ fault. (lookups : ℕ) × (counter.new.count
-        ≡ counter.old.count + lookups) × IsExportsCallFault root.old root.new module_id fault lookups) }
+    ensures faults { IfErr result (λ fault. (lookups : ℕ) × (counter.new.count ≡ counter.old.count
+        + lookups) × IsExportsCallFault root.old root.new module_id fault lookups) }
     ensures listed { (start : List ℕ) → AreExportListsCorrectAndUnique root.old.graph start }
     ensures grown { HasGrown root.old root.new }
     ensures enough { IsStored root.old module_id → IsOnlyOutOfMemoryByWidestLimits root.old result }

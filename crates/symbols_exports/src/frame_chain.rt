@@ -19,7 +19,8 @@ pub(crate) fn chain_of_frames<'a>(
     stack: &[Frame<'a>],
     export: ResolvedExport,
 ) -> Result<ResolvedExportOrReExportAllPath<'a>, AllocError>
-    ensures statements { IfOk result (λ chain. statements_of_chain chain ≡ map frame_view stack.now) }
+    ensures statements { IfOk result
+        (λ chain. statements_of_chain chain ≡ map frame_view stack.now) }
     ensures end { IfOk result (λ chain. resolved_export chain ≡ export) }
 {
     let mut chain = ResolvedExportOrReExportAllPath::Export(export);

@@ -149,7 +149,8 @@ pub fn public_names(
     ensures answers { IfOk result
         (λ names. IsPublicNamesCallResult root.old root.new module_id
         (map public_name_view names.items)) }
-    ensures once { IfOk result (λ names. AllPairs (λ x y. x ≢ y) (map public_name_view names.items)) }
+    ensures once { IfOk result (λ names. AllPairs
+        (λ x y. x ≢ y) (map public_name_view names.items)) }
     ensures faults { IfErr result (λ fault. (lookups : ℕ)
         × IsExportsCallFault root.old root.new module_id fault lookups) }
     ensures listed { (start : List ℕ) → AreExportListsCorrectAndUnique root.old.graph start }

@@ -65,7 +65,8 @@ fn copied_chain<'a>(
     alloc: Global,
     chain: &ResolvedExportOrReExportAllPath<'a>,
 ) -> Result<ResolvedExportOrReExportAllPath<'a>, AllocError>
-    ensures statements { IfOk result (λ copy. statements_of_chain copy ≡ statements_of_chain chain.now) }
+    ensures statements { IfOk result
+        (λ copy. statements_of_chain copy ≡ statements_of_chain chain.now) }
     ensures end { IfOk result (λ copy. resolved_export copy ≡ resolved_export chain.now) }
 {
     let mut frames = Vec::new(alloc);
@@ -94,9 +95,8 @@ fn is_shared_name(
     first: &ResolvedExportOrReExportAllPath<'_>,
     shadowed: &[ResolvedExportOrReExportAllPath<'_>],
 ) -> bool
-    ensures { (name : List ℕ)
-        → result ≡ has_several_exporters_first_along_star is_along_stars (resolved_chain_view name first.now
-        ∷ map (resolved_chain_view name) shadowed.now) }
+    ensures { (name : List ℕ) → result ≡ has_several_exporters_first_along_star is_along_stars
+        (resolved_chain_view name first.now ∷ map (resolved_chain_view name) shadowed.now) }
 {
     match first {
         ResolvedExportOrReExportAllPath::ReExportAllPath(_) => !shadowed.is_empty(),
@@ -112,9 +112,9 @@ fn shared_name<'a>(
     shadowed: Vec<ResolvedExportOrReExportAllPath<'a>>,
 ) -> Result<SharedName<'a>, AllocError>
     ensures name { IfOk result (λ shared. string_bytes shared.name ≡ name.now) }
-    ensures exporters { IfOk result (λ shared. map (resolved_chain_view name.now) shared.exporters.items
-        ≡ resolved_chain_view name.now first.now
-        ∷ map (resolved_chain_view name.now) shadowed.entry.items) }
+    ensures exporters { IfOk result
+        (λ shared. map (resolved_chain_view name.now) shared.exporters.items ≡ resolved_chain_view
+        name.now first.now ∷ map (resolved_chain_view name.now) shadowed.entry.items) }
 {
     let mut exporters = shadowed;
     exporters.insert(0, copied_chain(alloc, first)?)?;
@@ -125,7 +125,7 @@ fn shared_name<'a>(
 }
 
 /// Returns the shared names among the collected ones, in order.
-#[tactic(auto, using(crate::proofs::ShadowedChains::one_trace_each, crate::proofs::ShadowedChains::passed_over, crate::proofs::ShadowedChains::shared_after))]
+#[tactic(auto, using(crate::proofs::ShadowedChains::next_shared_name))]
 pub(crate) fn shared_names<'a>(
     alloc: Global,
     resolved: &IndexMap<String, ResolvedExportOrReExportAllPath<'a>, RandomState>,
@@ -133,8 +133,8 @@ pub(crate) fn shared_names<'a>(
 ) -> Result<Vec<SharedName<'a>>, AllocError>
     requires few { length shadowed.items ≤ length resolved.now.entries }
     ensures { IfOk result (λ shared. resolved_shared_name_views shared.items
-        ≡ groups_of_several_first_along_star is_along_stars (groups_of_first_and_later_chains resolved.now.entries
-        (chain_lists_view shadowed.entry.items))) }
+        ≡ groups_of_several_first_along_star is_along_stars (groups_of_first_and_later_chains
+        resolved.now.entries (chain_lists_view shadowed.entry.items))) }
 {
     let mut shared = Vec::new(alloc);
     let mut names = resolved.iter();

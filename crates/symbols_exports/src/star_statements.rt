@@ -82,13 +82,14 @@ pub(crate) fn resolve_specifier(
 ) -> Result<Option<ModuleId>, SymbolsFault>
     requires known { IsStored root.old referrer }
     requires room { counter.old.count + 1 < 2 ^ 128 }
-    ensures keeps { HasGrownAndFailsOnlyFor root.old root.new (IsStoringFault root.old (resolve_specifier root.old.graph
+    ensures keeps { HasGrownAndFailsOnlyFor root.old root.new
+        (IsStoringFault root.old (resolve_specifier root.old.graph
         (specifier_in root.old referrer) specifier_text.now)) result }
     ensures gives { IfOk result (λ id. option_map (maybe_specifier root.new) id
         ≡ option_map (λ s. Some s) (resolve_specifier root.old.graph
         (specifier_in root.old referrer) specifier_text.now)) }
-    ensures stored { OnOk result (root.new ≡ root_with_stored_module root.old (resolve_specifier root.old.graph
-        (specifier_in root.old referrer) specifier_text.now)) }
+    ensures stored { OnOk result (root.new ≡ root_with_stored_module root.old
+        (resolve_specifier root.old.graph (specifier_in root.old referrer) specifier_text.now)) }
     ensures unchanged { OnErr result (root.new ≡ root.old) }
     ensures there { OnOk result ((v : List ℕ) → resolve_specifier root.old.graph (specifier_in
         root.old referrer) specifier_text.now ≡ Some v

@@ -1,11 +1,9 @@
-pub use Rattle.symbols_ast.specs.Names
-pub use Rattle.symbols_ast.specs.Categories
+pub use Rattle.symbols_ast.specs.Kinds
 pub use Rattle.symbols_ast.specs.FieldViews
 pub use Rattle.symbols_ast.specs.Fields
 pub use Rattle.symbols_ast.specs.Nodes
 pub use Rattle.symbols_ast.specs.NodeRefs
 pub use Rattle.symbols_ast.specs.Ids
-pub use Rattle.symbols_ast.specs.ChildFields
 pub use Rattle.symbols_ast.specs.Shapes
 pub use Rattle.symbols_ast.specs.TreeFaults
 pub use Rattle.symbols_ast.specs.WellFormed

@@ -36,8 +36,8 @@ pub(crate) fn repeated_specifier(
     hash_keys: RandomState,
     modules: &[RawModule],
 ) -> Result<Option<&str>, AllocError>
-    ensures { IfOk result (λ found. IsFirstWhere
-        (IsRepeatedEntryAt (module_specifiers (map module_view modules.now))) (option_copied found)) }
+    ensures { IfOk result (λ found. IsFirstWhere (IsRepeatedEntryAt
+        (module_specifiers (map module_view modules.now))) (option_copied found)) }
 {
     let names: Vec<&str> = modules
         .iter()
@@ -52,8 +52,8 @@ pub(crate) fn repeated_source(
     hash_keys: RandomState,
     redirects: &[(String, String)],
 ) -> Result<Option<&str>, AllocError>
-    ensures { IfOk result (λ found. IsFirstWhere
-        (IsRepeatedEntryAt (redirect_sources (map redirect_view redirects.now))) (option_copied found)) }
+    ensures { IfOk result (λ found. IsFirstWhere (IsRepeatedEntryAt
+        (redirect_sources (map redirect_view redirects.now))) (option_copied found)) }
 {
     let names: Vec<&str> = redirects
         .iter()
@@ -68,9 +68,8 @@ pub(crate) fn repeated_resolution(
     hash_keys: RandomState,
     resolutions: &[RawResolution],
 ) -> Result<Option<(&str, &str)>, AllocError>
-    ensures { IfOk result
-        (λ found. IsFirstWhere (IsRepeatedEntryAt (resolution_keys (map resolution_view resolutions.now)))
-        (option_map (λ p. (p.0.now, p.1.now)) found)) }
+    ensures { IfOk result (λ found. IsFirstWhere (IsRepeatedEntryAt (resolution_keys
+        (map resolution_view resolutions.now))) (option_map (λ p. (p.0.now, p.1.now)) found)) }
 {
     let pairs: Vec<(&str, &str)> = resolutions
         .iter()

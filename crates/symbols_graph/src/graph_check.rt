@@ -20,8 +20,8 @@ pub(crate) fn tree_fault(
     alloc: Global,
     kind: &RawModuleKind,
 ) -> Result<Option<TreeFault>, AllocError>
-    ensures { IfOk result (λ found.
-        MatchOption found (IsCheckedContent (content_view kind.now)) (HasFirstTreeFault (content_view kind.now))) }
+    ensures { IfOk result (λ found. MatchOption found
+        (IsCheckedContent (content_view kind.now)) (HasFirstTreeFault (content_view kind.now))) }
 {
     let RawModuleKind::Esm { text, tree, .. } = kind else {
         return Ok(None);
@@ -106,7 +106,8 @@ fn check_resolutions(alloc: Global, keys: RandomState, raw: &RawGraph) -> Result
 
 /// Refuses the first module whose tree has a fault.
 fn check_trees(alloc: Global, raw: &RawGraph) -> Result<(), GraphFault>
-    ensures checked { OnOk result (All (λ m. IsCheckedContent (content_view m.kind)) raw.now.modules.items) }
+    ensures checked { OnOk result
+        (All (λ m. IsCheckedContent (content_view m.kind)) raw.now.modules.items) }
     ensures accepted { OnOk result (HasNoGraphFaultOfRank (graph_view raw.now) 5) }
     ensures refused { IfErr result (IsFirstGraphFaultOfRank (graph_view raw.now) 5) }
 {
@@ -121,7 +122,8 @@ fn check_trees(alloc: Global, raw: &RawGraph) -> Result<(), GraphFault>
 
 /// Checks a raw graph, and fails with its first fault (extension).
 pub(crate) fn check(alloc: Global, keys: RandomState, raw: &RawGraph) -> Result<(), GraphFault>
-    ensures checked { OnOk result (All (λ m. IsCheckedContent (content_view m.kind)) raw.now.modules.items) }
+    ensures checked { OnOk result
+        (All (λ m. IsCheckedContent (content_view m.kind)) raw.now.modules.items) }
     ensures accepted { OnOk result (IsFaultlessGraph (graph_view raw.now)) }
     ensures refused { IfErr result (λ fault. fault ≢ OutOfMemory
         → IsFirstGraphFault (graph_view raw.now) fault) }

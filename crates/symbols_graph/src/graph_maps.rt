@@ -61,7 +61,8 @@ pub(crate) fn keyed_redirects(
     redirects: Vec<(String, String)>,
 ) -> Result<StringMap<String>, AllocError>
     requires distinct { HasNoRepeat (redirect_sources (map redirect_view redirects.items)) }
-    ensures { IfOk result (λ keyed. string_pairs_bytes keyed.entries ≡ map redirect_view redirects.items) }
+    ensures { IfOk result (λ keyed. string_pairs_bytes keyed.entries
+        ≡ map redirect_view redirects.items) }
 {
     let mut keyed = IndexMap::with_capacity_and_hasher(alloc, redirects.len(), keys)?;
     for (source, target) in redirects {

@@ -20,6 +20,6 @@ pub fn putting_is_opening_anew()
         → IsFirstPutFault graph.modules m resolved fault
         → IsFirstGraphFault (graph_with_put_module raw m resolved) fault }
     ensures same { (raw graph : GraphView) (m : ModuleView) (resolved : List (List ℕ × List ℕ))
-        → IsSameGraph raw graph
-        → IsSameGraph (graph_with_put_module raw m resolved) (graph_with_put_module graph m resolved) }
+        → IsSameGraph raw graph → IsSameGraph
+        (graph_with_put_module raw m resolved) (graph_with_put_module graph m resolved) }
 {}

@@ -38,8 +38,8 @@ fn field_has_misplaced_child(nodes: &[Node], field: &Field) -> bool
 }
 
 fn any_holds_misplaced(nodes: &[Node], fields: &[Option<Field>]) -> bool
-    ensures { result ≡ list_any (λ field.
-        option_map_or (field_has_misplaced_child nodes.now) (option_map field_view field) false) fields.now }
+    ensures { result ≡ list_any (λ field. option_map_or
+        (field_has_misplaced_child nodes.now) (option_map field_view field) false) fields.now }
 {
     fields.iter().any(|slot| match slot {
         Some(field) => field_has_misplaced_child(nodes, field),
@@ -83,7 +83,8 @@ fn needs_from_clause(nodes: &[Node], kind: &Kind) -> bool
 }
 
 fn node_needs_source(nodes: &[Node], id: NodeId) -> bool
-    ensures { result ≡ option_map_or (export_specifier_needs_from_clause nodes.now) (kind_at nodes.now id) false }
+    ensures { result ≡ option_map_or
+        (export_specifier_needs_from_clause nodes.now) (kind_at nodes.now id) false }
 {
     match nodes.get(id.index()) {
         Some(node) => needs_from_clause(nodes, &node.kind),
@@ -92,8 +93,8 @@ fn node_needs_source(nodes: &[Node], id: NodeId) -> bool
 }
 
 fn any_needs_source(nodes: &[Node], ids: &[NodeId]) -> bool
-    ensures { result ≡ list_any (λ n.
-        option_map_or (export_specifier_needs_from_clause nodes.now) (kind_at nodes.now n) false) ids.now }
+    ensures { result ≡ list_any (λ n. option_map_or
+        (export_specifier_needs_from_clause nodes.now) (kind_at nodes.now n) false) ids.now }
 {
     ids.iter().any(|id| node_needs_source(nodes, *id))
 }
@@ -108,7 +109,8 @@ fn is_destructuring_with_default(nodes: &[Node], kind: &Kind) -> bool
 }
 
 fn node_is_bad_param(nodes: &[Node], id: NodeId) -> bool
-    ensures { result ≡ option_map_or (is_destructuring_with_default nodes.now) (kind_at nodes.now id) false }
+    ensures { result ≡ option_map_or
+        (is_destructuring_with_default nodes.now) (kind_at nodes.now id) false }
 {
     match nodes.get(id.index()) {
         Some(node) => is_destructuring_with_default(nodes, &node.kind),

@@ -43,7 +43,8 @@ fn check_texts(
     specifier: &str,
     resolutions: &[(String, String)],
 ) -> Result<(), GraphFault>
-    ensures distinct { OnOk result (HasNoRepeat (redirect_sources (map redirect_view resolutions.now))) }
+    ensures distinct { OnOk result
+        (HasNoRepeat (redirect_sources (map redirect_view resolutions.now))) }
     ensures refused { IfErr result
         (IsFirstRepeatedText specifier.now (map redirect_view resolutions.now)) }
 {
@@ -80,7 +81,8 @@ pub(crate) fn check_put(
     requires keyed { AreKeyedBySpecifier modules.now.entries }
     requires few { length modules.now.entries < 2 ^ 32 }
     ensures checked { OnOk result (IsCheckedContent (content_view raw.now.kind)) }
-    ensures distinct { OnOk result (HasNoRepeat (redirect_sources (map redirect_view resolutions.now))) }
+    ensures distinct { OnOk result
+        (HasNoRepeat (redirect_sources (map redirect_view resolutions.now))) }
     ensures few { OnOk result
         (length (modules_with_put_module (module_view raw.now) (values modules.now)) < 2 ^ 32) }
     ensures accepted { OnOk result (IsFaultlessPut (values modules.now) (module_view raw.now)

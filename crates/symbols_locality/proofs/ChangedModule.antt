@@ -5,9 +5,8 @@ use Rattle.std.specs.Str.{bytes_eq}
 use Rattle.symbols_ast.specs.Graph.{GraphView, ModuleView, Resolution, specifier_after_redirect}
 use Rattle.symbols_graph.specs.PutModules.{modules_with_put_module, resolution_with_referrer, is_resolution_of_other_referrer, graph_with_put_module}
 use Rattle.symbols_root.specs.laws.Specifiers.{equal_if_bytes_eq, found_module_has_this_specifier}
-use Rattle.symbols_answers.specs.Questions.{QueryView}
+use Rattle.symbols_answers.specs.Questions.{QueryView, IsSpecifierFollowedForQuestion, AreAlikeForQuery, IsModuleNotLookedUpByQuery}
 use Rattle.symbols_answers.specs.Seen.{FollowedSpecifierRelation}
-use Rattle.symbols_answers.specs.QueryReach.{IsSpecifierFollowedForQuestion, AreAlikeForQuery, IsModuleNotLookedUpByQuery}
 use Rattle.symbols_locality.specs.ChangedModule.{DiffersOnlyIn}
 use Rattle.symbols_locality.proofs.FoundModules.{IsFound}
 use Rattle.symbols_locality.proofs.SeenAlike.{found_under_seen}

@@ -2,10 +2,9 @@
 use Rattle.std.proofs.Common.{◌≡◌, ℕ, Bool, true, List, Some, sym, subst}
 use Rattle.symbols_ast.specs.Graph.{GraphView, resolved_dependency}
 use Rattle.symbols_root.specs.TypesChains.{resolved_module_specifier}
-use Rattle.symbols_answers.specs.Questions.{QueryView}
+use Rattle.symbols_answers.specs.Questions.{QueryView, IsSpecifierFollowedForQuestion, AreAlikeForQuery}
 use Rattle.symbols_answers.specs.Seen.{FollowedSpecifierRelation, IsSpecifierReachedByFollowing, queried_specifier_is_looked_up}
 use Rattle.symbols_answers.specs.Seen.{resolved_specifier_is_looked_up, IsSpecifierLookedUp, is_requested, types_dependency_is_looked_up}
-use Rattle.symbols_answers.specs.QueryReach.{IsSpecifierFollowedForQuestion, AreAlikeForQuery}
 use Rattle.symbols_locality.specs.ClosedPart.{IsClosedPart}
 use Rattle.symbols_locality.proofs.FoundModules.{IsUnder}
 use Rattle.symbols_locality.proofs.SeenAlike.{resolved_under}

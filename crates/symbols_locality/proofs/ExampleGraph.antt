@@ -3,9 +3,8 @@
 use Rattle.std.proofs.Common.{◌≡◌, ℕ, List, [], ◌∷◌, None, Some, inl, inr, refl, ap, ◌∙◌, arith}
 use Rattle.std.proofs.lemmas.Option.{none-some, same_Some}
 use Rattle.symbols_ast.specs.Graph.{GraphView, ModuleView, esm, external, content_types_dependency}
-use Rattle.symbols_answers.specs.Questions.{QuestionView, QueryForm}
+use Rattle.symbols_answers.specs.Questions.{QuestionView, QueryForm, IsSpecifierLookedUpByQuery, IsModuleNotLookedUpByQuery}
 use Rattle.symbols_answers.specs.Seen.{queried_specifier_is_looked_up, is_requested, types_dependency_is_looked_up}
-use Rattle.symbols_answers.specs.QueryReach.{IsSpecifierLookedUpByQuery, IsModuleNotLookedUpByQuery}
 use Rattle.symbols_locality.specs.ChangedModule.{IsUnreferenced}
 use Rattle.symbols_locality.proofs.Lists.{first_or_later, only_one, contains_nothing}
 use Rattle.symbols_locality.proofs.UnseenModules.{unseen_by_query}

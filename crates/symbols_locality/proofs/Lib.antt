@@ -14,7 +14,6 @@ mod RoutesAlike
 mod DependencyLists
 mod SameReferences
 mod SameInputs
-mod ComputedAnswers
 mod SameAnswers
 mod ChangedModule
 mod UnseenModules

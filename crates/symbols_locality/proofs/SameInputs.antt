@@ -9,16 +9,14 @@ use Rattle.symbols_table.specs.Changes.{Change}
 use Rattle.symbols_table.specs.SymbolViews.{SymbolView, symbol_after_changes}
 use Rattle.symbols_root.specs.TypesChains.{resolved_module_specifier}
 use Rattle.symbols_exports.specs.StarStatements.{star_specifiers}
-use Rattle.symbols_answers.specs.Questions.{QuestionView, query_module, query_exports, query_names, query_symbol, query_name}
-use Rattle.symbols_answers.specs.Questions.{query_deps, query_paths, query_definitions, query_leaves, query_resolve, QueryView}
+use Rattle.symbols_answers.specs.Questions.{QueryView, append_optional_specifier_if_absent, append_resolved_specifiers}
+use Rattle.symbols_answers.specs.Questions.{list_grown_by_walk_from_index, walk_limit, import_specifiers_among, import_specifiers}
+use Rattle.symbols_answers.specs.Questions.{star_and_import_specifiers, followed_specifiers, import_type_specifier_of_question, append_requested_specifiers}
+use Rattle.symbols_answers.specs.Questions.{append_resolved_import_type, requested_specifiers, append_types_dependency, seen_specifiers, inputs_of_query}
+use Rattle.symbols_answers.specs.Questions.{IsSpecifierRequestedByQuery, IsSpecifierLookedUpByQuery, IsSpecifierFollowedForQuestion, AreAlikeForQuery}
 use Rattle.symbols_answers.specs.Inputs.{found_under_specifier, input_of_specifier}
-use Rattle.symbols_answers.specs.InputLists.{append_optional_specifier_if_absent, append_resolved_specifiers, list_grown_by_walk_from_index, walk_limit}
-use Rattle.symbols_answers.specs.InputLists.{import_specifiers_among, import_specifiers, star_and_import_specifiers, followed_specifiers}
-use Rattle.symbols_answers.specs.InputLists.{import_type_specifier_of_question, append_requested_specifiers, append_resolved_import_type, requested_specifiers}
-use Rattle.symbols_answers.specs.InputLists.{append_types_dependency, seen_specifiers, inputs_of_query}
-use Rattle.symbols_answers.specs.QueryReach.{IsSpecifierRequestedByQuery, IsSpecifierLookedUpByQuery, IsSpecifierFollowedForQuestion, AreAlikeForQuery}
 use Rattle.symbols_answers.specs.Seen.{FollowedSpecifierRelation, queried_specifier_is_looked_up, is_requested}
-use Rattle.symbols_answers.specs.laws.FollowedLists.{listed_specifiers_are_followed, import_type_of_question_is_followed}
+use Rattle.symbols_answers.specs.laws.FollowedLists.{followed_specifiers_same, listed_specifiers_are_followed, import_type_of_question_is_followed}
 use Rattle.symbols_answers.specs.laws.SeenLists.{specifiers_requested_from_module, append_requested_is_step_that_appends, requested_by_requested_is_requested}
 use Rattle.symbols_answers.specs.laws.SeenLists.{queried_and_import_type_specifiers, queried_and_import_type_are_requested, listed_requests_are_requested}
 use Rattle.symbols_answers.specs.laws.SeenLists.{types_dependency_as_list, append_types_is_step_that_appends, types_dependency_of_looked_up_is_too}
@@ -58,19 +56,7 @@ module _ (graph other : GraphView) (query : QueryView) (alike : AreAlikeForQuery
 
   followed_same : (u : List ℕ) → IsFound graph Follows query.specifier u
       → followed_specifiers graph query.question u ≡ followed_specifiers other query.question u
-  followed_same u at = by query.question
-    where
-      by : (question : QuestionView) → followed_specifiers graph question u ≡ followed_specifiers other question u
-      by query_module = refl
-      by query_exports = star_same u at
-      by query_names = star_same u at
-      by (query_symbol name) = refl
-      by (query_name s) = refl
-      by (query_deps s mode) = refl
-      by (query_paths s) = star_and_import_same u at
-      by (query_definitions s) = star_and_import_same u at
-      by (query_leaves s) = star_and_import_same u at
-      by (query_resolve reference) = star_and_import_same u at
+  followed_same u at = followed_specifiers_same graph other u (star_same u at) (star_and_import_same u at) query.question
 
   -- ---- requested specifiers
 

@@ -15,12 +15,11 @@ use Rattle.symbols_paths.specs.PartTargets.{PartTargetView, part_is_symbol, itse
 use Rattle.symbols_paths.specs.DepAnswers.{path_entries, ReferencedSymbolWithParts, symbol_referenced_by_id, symbol_referenced_by_part, referenced_symbol}
 use Rattle.symbols_paths.specs.DepAnswers.{unresolved_part_path}
 use Rattle.symbols_paths.specs.DepAnswers.{entry_of_imported_module, entries_of_reference_without_symbol}
-use Rattle.symbols_answers.specs.Questions.{QuestionView}
+use Rattle.symbols_answers.specs.Questions.{QuestionView, IsFollowedBySearch, star_specifier_is_followed, import_specifier_is_followed}
 use Rattle.symbols_answers.specs.Seen.{FollowedSpecifierRelation, AreAlikeWhereLookedUp}
 use Rattle.symbols_locality.proofs.FoundModules.{IsFound}
 use Rattle.symbols_locality.proofs.AlikeRoutes.{AreRoutesAlike}
 use Rattle.symbols_locality.proofs.SearchMarks.{FollowsStars, FollowsImports, marks_of}
-use Rattle.symbols_answers.specs.QueryReach.{IsFollowedBySearch, star_specifier_is_followed, import_specifier_is_followed}
 use Rattle.symbols_locality.proofs.SeenAlike.{same_changes, same_target}
 use Rattle.symbols_locality.proofs.RoutesAlike.{routes_alike, import_part_same, import_part_found}
 

@@ -5,10 +5,9 @@ use Rattle.std.specs.Str.{bytes_eq}
 use Rattle.std.proofs.lemmas.Option.{none-some, same_Some}
 use Rattle.symbols_ast.specs.Graph.{GraphView, ModuleView, Resolution, specifier_after_redirect}
 use Rattle.symbols_ast.specs.Graph.{resolved_dependency}
-use Rattle.symbols_answers.specs.Questions.{QueryView}
+use Rattle.symbols_answers.specs.Questions.{QueryView, IsSpecifierFollowedForQuestion, IsModuleNotLookedUpByQuery}
 use Rattle.symbols_answers.specs.Seen.{FollowedSpecifierRelation, IsSpecifierReachedByFollowing, queried_specifier_is_looked_up}
 use Rattle.symbols_answers.specs.Seen.{resolved_specifier_is_looked_up, IsSpecifierLookedUp, is_requested, types_dependency_is_looked_up}
-use Rattle.symbols_answers.specs.QueryReach.{IsSpecifierFollowedForQuestion, IsModuleNotLookedUpByQuery}
 use Rattle.symbols_locality.specs.ChangedModule.{IsUnreferenced}
 use Rattle.symbols_locality.proofs.Lists.{found_there}
 

@@ -8,11 +8,8 @@ ghost use Rattle.std.specs.Prelude.{◌≡◌, ℕ, Bool, true, List};
 ghost use Rattle.symbols_ast.specs.Graph.{GraphView, ModuleView, specifier_after_redirect};
 ghost use Rattle.symbols_graph.specs.PutModules.{graph_with_put_module};
 ghost use Rattle.symbols_root.specs.declared.rules.Rules.{Rules};
-ghost use Rattle.symbols_answers.specs.Answers.{AnswerView};
-ghost use Rattle.symbols_answers.specs.Meanings.{IsAnswerToQuery};
-ghost use Rattle.symbols_answers.specs.QueryAnswers.{query_answer};
-ghost use Rattle.symbols_answers.specs.Questions.{QueryView};
-ghost use Rattle.symbols_answers.specs.QueryReach.{AreAlikeForQuery, IsModuleNotLookedUpByQuery};
+ghost use Rattle.symbols_answers.specs.Answers.{AnswerView, IsAnswerToQuery, query_answer};
+ghost use Rattle.symbols_answers.specs.Questions.{QueryView, AreAlikeForQuery, IsModuleNotLookedUpByQuery};
 ghost use Rattle.symbols_locality.specs.ChangedModule.{DiffersOnlyIn, IsUnreferenced};
 ghost use Rattle.symbols_locality.specs.ClosedPart.{IsClosedPart};
 

@@ -6,7 +6,7 @@ use Rattle.std.specs.Str.{chars}
 use Rattle.unicode_ident.specs.Ident.{is_xid_start, is_xid_continue}
 use Rattle.symbols_ast.specs.declared.tree.kinds.Kind.{Kind}
 use Rattle.symbols_ast.specs.declared.tree.kinds.Expr.TheVariants as Expr
-use Rattle.symbols_ast.specs.ChildFields.{left_child_of, obj_child_of, prop_child_of, right_child_of, expr_child_of}
+use Rattle.symbols_ast.specs.Fields.{left_child_of, obj_child_of, prop_child_of, right_child_of, expr_child_of}
 use Rattle.symbols_ast.specs.NodeRefs.{TreeNode, kind_of, child_in_field}
 
 -- An identifier may start with `$`, `_` or a letter.

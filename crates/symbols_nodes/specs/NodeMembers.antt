@@ -2,7 +2,7 @@
 use Rattle.std.specs.Prelude.{Bool, true, false, not, ◌||◌, Option, Some, None}
 use Rattle.std.specs.Option.{option_and_then, option_map_or}
 use Rattle.symbols_ast.specs.NodeRefs.{TreeNode, kind_of, child_in_field}
-use Rattle.symbols_ast.specs.ChildFields.{key_child_of}
+use Rattle.symbols_ast.specs.Fields.{key_child_of}
 use Rattle.symbols_ast.specs.declared.tree.member_kinds.Accessibility.{Accessibility}
 use Rattle.symbols_ast.specs.declared.tree.kinds.Kind.{Kind}
 use Rattle.symbols_ast.specs.declared.tree.kinds.Expr.TheVariants as Expr

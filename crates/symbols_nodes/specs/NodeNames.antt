@@ -5,7 +5,7 @@ use Rattle.symbols_ast.specs.declared.tree.kinds.Kind.{Kind}
 use Rattle.symbols_ast.specs.declared.tree.kinds.Decl.TheVariants as Decl
 use Rattle.symbols_ast.specs.declared.tree.kinds.Expr.TheVariants as Expr
 use Rattle.symbols_ast.specs.declared.tree.kinds.Pat.TheVariants as Pat
-use Rattle.symbols_ast.specs.ChildFields.{decl_child_of, ident_child_of, id_child_of, key_child_of, expr_child_of, param_child_of, left_child_of}
+use Rattle.symbols_ast.specs.Fields.{decl_child_of, ident_child_of, id_child_of, key_child_of, expr_child_of, param_child_of, left_child_of}
 use Rattle.symbols_ast.specs.Ids.{ident_id}
 use Rattle.symbols_ast.specs.NodeRefs.{TreeNode, kind_of, child_in_field}
 use Rattle.symbols_nodes.specs.Expando.{Expando, expando_of_assignment}

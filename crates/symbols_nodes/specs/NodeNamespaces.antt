@@ -2,7 +2,7 @@
 use Rattle.std.specs.Prelude.{Bool, true, false, Option, Some}
 use Rattle.std.specs.Option.{option_and_then}
 use Rattle.symbols_ast.specs.NodeRefs.{kind_of, child_in_field}
-use Rattle.symbols_ast.specs.ChildFields.{decl_child_of}
+use Rattle.symbols_ast.specs.Fields.{decl_child_of}
 use Rattle.symbols_ast.specs.declared.tree.kinds.Kind.{Kind}
 use Rattle.symbols_ast.specs.declared.tree.kinds.Decl.TheVariants as Decl
 use Rattle.symbols_nodes.specs.NodeViews.{ExportDeclView, SymbolNodeView, exported_fn, exported_var, exported_ts_interface, exported_ts_type_alias, export_decl}

@@ -2,7 +2,7 @@
 use Rattle.std.specs.Prelude.{Bool, true, false, is_some, Option, Some}
 use Rattle.std.specs.Option.{option_and_then, option_map_or}
 use Rattle.symbols_ast.specs.NodeRefs.{TreeNode, kind_of, child_in_field}
-use Rattle.symbols_ast.specs.ChildFields.{function_child_of, body_child_of, decl_child_of}
+use Rattle.symbols_ast.specs.Fields.{function_child_of, body_child_of, decl_child_of}
 use Rattle.symbols_ast.specs.declared.tree.kinds.Kind.{Kind}
 use Rattle.symbols_ast.specs.declared.tree.kinds.Decl.TheVariants as Decl
 use Rattle.symbols_ast.specs.declared.tree.kinds.Member.TheVariants as Member

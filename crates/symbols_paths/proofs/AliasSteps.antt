@@ -150,3 +150,33 @@ module _ (start : SearchStart) (root : RootView) (running : List AliasDecl) (vis
             (λ j. (here_is j, outer_is j, parts_are j, e_inner j, all j, symbols_of_unique_ids later (e_fresh j), same j)) y);
         less = omega (arith, after, first, then, last, besides, much, one_of (2 ^ 32) here.index each (omega (arith, fits)));
       }
+
+  -- without parts no frame waits to resolve them
+  pub alias_without_parts : (inner : SharedParts) (target : UniqueSymbolId) (now : List AliasDecl) (fresh : List UniqueSymbolId) (b : Box AliasSearch Global)
+      → remaining_parts inner ≡ []
+      → IsStepWithSameOutcomeAndLessWork start root visited frames (Expand here) root now fresh (frame.Parts inner ∷ frame.Alias b ∷ frames) (Search target)
+      → IsStepWithSameOutcomeAndLessWork start root visited frames (Expand here) root now fresh (frame.Alias b ∷ frames) (Search target)
+  alias_without_parts inner target now fresh b none is =
+      let n = length (aliases_with_frames start.running frames ++ alias_at_current_decl b.value.here ∷ []) in
+      let more : remaining_search_work start.running fresh (frame.Parts inner ∷ frame.Alias b ∷ frames) (Search target)
+      ≡ work_of_symbol_search n (length fresh)
+      + (work_of_parts_search n (length (remaining_parts inner)) + work_of_frames start.running (frame.Alias b ∷ frames) (length fresh)) = refl in
+      let left : remaining_search_work start.running fresh (frame.Alias b ∷ frames) (Search target)
+      ≡ work_of_symbol_search n (length fresh) + work_of_frames start.running (frame.Alias b ∷ frames) (length fresh) = refl in
+      record {
+        valid = record {
+          running_so = is.valid.running_so;
+          aliases = is.valid.aliases;
+          symbols = is.valid.symbols;
+          few = is.valid.few;
+          frames_valid = is.valid.frames_valid.1;
+          step_valid = is.valid.step_valid;
+        };
+        comes = λ later on F A y.
+            let waiting : List Frame = frame.Alias b ∷ frames in
+            let aliases = decls_of_aliases later (aliases_with_frames start.running waiting) in
+            is.comes later on F A (subst (λ qs. HoldsAfterSymbolSearch (search_targets_of_root later)
+            (HoldsAfterPartsInForest (search_targets_of_root later) (FramesUnwindToResult later start.running F A waiting) aliases qs) aliases
+            (symbols_of_unique_ids later fresh) (symbol_of_unique_id later target)) (sym none) y);
+        less = omega (arith, more, left, is.less);
+      }

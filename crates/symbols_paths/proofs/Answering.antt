@@ -27,8 +27,8 @@ use Rattle.symbols_paths.specs.Choice.{IsOutcomeOfSymbolSearch, IsOutcomeOfSearc
 use Rattle.symbols_paths.specs.Computed.{search_limit, paths_with_parts, definition_paths_of}
 use Rattle.symbols_paths.specs.Views.{symbol_by_specifier}
 use Rattle.symbols_paths.specs.inner.Views.{symbol_of_unique_id}
-use Rattle.symbols_paths.specs.inner.PathBuilders.{built_paths, modules_of_builders}
-use Rattle.symbols_paths.specs.inner.SearchSteps.{symbols_of_unique_ids, AreVisitedGrownAndModulesStored, ArePathsFoundForSymbol, ArePathsFoundWithParts}
+use Rattle.symbols_paths.specs.inner.PathBuilders.{built_paths}
+use Rattle.symbols_paths.specs.inner.SearchSteps.{symbols_of_unique_ids, ArePathsFoundByNewSearch}
 use Rattle.symbols_paths.specs.Answers.{AreDefinitionPathsWithParts, AreDefinitionPaths, AreDefinitionPathsWithAnyParts, symbol_in_root}
 use Rattle.symbols_paths.specs.Answers.{IsFindDefinitionPathsFault}
 use Rattle.symbols_paths.proofs.GrownRoots.{same_links}
@@ -112,55 +112,52 @@ is_computed rules graph s ps f after x few =
     sym (walks_computed (search_targets_of rules graph) search_limit (omega arith) search_limit search_limit x (omega arith) (omega (arith, few))).0
 
 -- paths found from no visited symbols, stated for the root before more was stored
-module _ {old new : RootView} {module_id : ModuleId} {s : SymbolId} {u : UniqueSymbolId} (builders : List PathBuilder) {after : List UniqueSymbolId}
-    (known : module_id.0 < length old.stored) (in_module : u.module_id ≡ module_id) (number : u.symbol_id
-    ≡ s) (grown : HasGrown old new) (found : ArePathsFoundForSymbol new [] [] u builders after)
-    (searched_it : AreVisitedGrownAndModulesStored new [] after (modules_of_builders builders)) where
+module _ {old new : RootView} {module_id : ModuleId} {s : SymbolId} {u : UniqueSymbolId} (builders : List PathBuilder)
+    (known : module_id.0 < length old.stored) (in_module : u.module_id ≡ module_id) (number : u.symbol_id ≡ s) (grown : HasGrown old new)
+    (outcome : ArePathsFoundByNewSearch new u [] builders) where
   pub found_before : IsOutcomeOfSymbolSearch (search_targets_of_root old) search_limit [] [] (symbol_by_specifier old module_id s) (built_paths new builders)
-      (symbols_of_unique_ids new after)
+      (symbols_of_unique_ids new outcome.after)
   found_before =
       let called : symbol_of_unique_id new u ≡ symbol_by_specifier old module_id s =
       (λ i. record { specifier = (ap (specifier_in new) in_module ∙ specifier_unchanged_by_growth grown module_id known) i; number = number i }) in
       subst (λ routes. IsOutcomeOfSymbolSearch routes search_limit [] [] (symbol_by_specifier old module_id s) (built_paths new builders)
-      (symbols_of_unique_ids new after))
+      (symbols_of_unique_ids new outcome.after))
       (same_links grown)
       (subst (λ n. IsOutcomeOfSymbolSearch (search_targets_of_root new) search_limit [] [] n (built_paths new builders)
-      (symbols_of_unique_ids new after)) called
-      (found new (has_grown_refl new)))
+      (symbols_of_unique_ids new outcome.after)) called
+      (found_in (outcome.found new (has_grown_refl new))))
 
   pub paths_found : AreDefinitionPaths old.rules old.graph (symbol_by_specifier old module_id s) (built_paths new builders)
-  paths_found = are_paths old.rules old.graph search_limit (symbol_by_specifier old module_id s) (built_paths new builders) (symbols_of_unique_ids new after)
-      found_before
+  paths_found = are_paths old.rules old.graph search_limit (symbol_by_specifier old module_id s) (built_paths new builders)
+      (symbols_of_unique_ids new outcome.after) found_before
 
   pub paths_listed : built_paths new builders ≡ definition_paths_of old.rules old.graph (symbol_by_specifier old module_id s)
-  paths_listed = is_computed old.rules old.graph (symbol_by_specifier old module_id s) [] (built_paths new builders) (symbols_of_unique_ids new after)
-      (no_parts found_before) (omega (arith, length-map after (symbol_of_unique_id new), searched_it.few (omega arith)))
+  paths_listed = is_computed old.rules old.graph (symbol_by_specifier old module_id s) [] (built_paths new builders) (symbols_of_unique_ids new outcome.after)
+      (no_parts found_before) (omega (arith, length-map outcome.after (symbol_of_unique_id new), outcome.searched.few (omega arith)))
 
 -- the same for paths under parts
-module _ {old new : RootView} (u : UniqueSymbolId) (parts : QualifiedNameParts) (builders : List PathBuilder) {after : List UniqueSymbolId}
-    (known : u.module_id.0
-    < length old.stored) (grown : HasGrown old new) (walked_it : ArePathsFoundWithParts new [] [] u parts builders after)
-    (searched_it : AreVisitedGrownAndModulesStored new [] after
-    (modules_of_builders builders)) where
+module _ {old new : RootView} (u : UniqueSymbolId) (parts : QualifiedNameParts) (builders : List PathBuilder)
+    (known : u.module_id.0 < length old.stored) (grown : HasGrown old new) (outcome : ArePathsFoundByNewSearch new u parts builders) where
   walked_before : IsOutcomeOfSearchWithParts (search_targets_of_root old) search_limit [] [] (symbol_of_unique_id old u) parts (built_paths new builders)
-      (symbols_of_unique_ids new after)
+      (symbols_of_unique_ids new outcome.after)
   walked_before =
       let called : symbol_of_unique_id new u ≡ symbol_of_unique_id old u =
       (λ i. record { specifier = specifier_unchanged_by_growth grown u.module_id known i; number = u.symbol_id }) in
       subst (λ routes. IsOutcomeOfSearchWithParts routes search_limit [] [] (symbol_of_unique_id old u) parts (built_paths new builders)
-      (symbols_of_unique_ids new after))
+      (symbols_of_unique_ids new outcome.after))
       (same_links grown)
       (subst (λ n. IsOutcomeOfSearchWithParts (search_targets_of_root new) search_limit [] [] n parts (built_paths new builders)
-      (symbols_of_unique_ids new after)) called
-      (walked_it new (has_grown_refl new)))
+      (symbols_of_unique_ids new outcome.after)) called
+      (outcome.found new (has_grown_refl new)))
 
   pub walked_found : AreDefinitionPathsWithAnyParts old.rules old.graph (symbol_of_unique_id old u) parts (built_paths new builders)
-  walked_found = are_paths_for old.rules old.graph search_limit (symbol_of_unique_id old u) parts (built_paths new builders) (symbols_of_unique_ids new after)
-      walked_before
+  walked_found = are_paths_for old.rules old.graph search_limit (symbol_of_unique_id old u) parts (built_paths new builders)
+      (symbols_of_unique_ids new outcome.after) walked_before
 
   pub walked_listed : built_paths new builders ≡ paths_with_parts old.rules old.graph (symbol_of_unique_id old u) parts
-  walked_listed = is_computed old.rules old.graph (symbol_of_unique_id old u) parts (built_paths new builders) (symbols_of_unique_ids new after) walked_before
-      (omega (arith, length-map after (symbol_of_unique_id new), searched_it.few (omega arith)))
+  walked_listed = is_computed old.rules old.graph (symbol_of_unique_id old u) parts (built_paths new builders)
+      (symbols_of_unique_ids new outcome.after) walked_before
+      (omega (arith, length-map outcome.after (symbol_of_unique_id new), outcome.searched.few (omega arith)))
 
 -- ---- after the paths are found only an allocation can fail
 

@@ -75,7 +75,15 @@ popped weigh stack new x is = omega (arith, ap (whole weigh) is, whole_append we
 pub replaced : {A : Type 0} (weigh : A → ℕ × ℕ) (stack new next more : List A) (x : A) → stack ≡ new ++ x ∷ [] → more ≡ new ++ reverse next
     → (weigh x).1 ≡ 1 + whole weigh next → whole weigh more < whole weigh stack
 replaced weigh stack new next more x is put here =
-    omega (arith, ap (whole weigh) is, ap (whole weigh) put, whole_append weigh new (x ∷ []), whole_append weigh new (reverse next), whole_reverse weigh next, here)
+    omega (
+      arith,
+      ap (whole weigh) is,
+      ap (whole weigh) put,
+      whole_append weigh new (x ∷ []),
+      whole_append weigh new (reverse next),
+      whole_reverse weigh next,
+      here,
+    )
 
 -- in the order in which they are visited
 pub popped_first : {A : Type 0} (stack new : List A) (x : A) → stack ≡ new ++ x ∷ [] → reverse stack ≡ x ∷ reverse new

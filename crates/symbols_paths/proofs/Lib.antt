@@ -55,3 +55,4 @@ mod ResumedSteps
 mod ReplacedNeeds
 mod PartsSteps
 mod SearchLoop
+mod DefinitionsAlone

@@ -220,8 +220,9 @@ replacing_end {ps = ps} {found = found} {all = all} {forks = forks} {ready = rea
     (replacing_next x put (subst (λ ys. AreReplacing ps found ys forks ready all at_search_start) (popped_first rest new x rest_is) is) put_is left_is stored)
 
 pub replacing_fork : {ps : QualifiedNameParts} {found now all : List PathBuilder} {ready at_search_start : List (Option PathBuilder)}
-    (rest new next : List PathBuilder) (forks more : List OpenFork) (xs : Vec Segment Global) (branches : Vec PathBuilder Global) (last : Box PathBuilder Global) (x : PathBuilder)
-    (fork : OpenFork) → rest ≡ new ++ x ∷ [] → x ≡ builder.Fork xs branches last → next ≡ reverse (all_branches branches last) → more ≡ forks ++ fork ∷ []
+    (rest new next : List PathBuilder) (forks more : List OpenFork) (xs : Vec Segment Global) (branches : Vec PathBuilder Global)
+    (last : Box PathBuilder Global) (x : PathBuilder) (fork : OpenFork)
+    → rest ≡ new ++ x ∷ [] → x ≡ builder.Fork xs branches last → next ≡ reverse (all_branches branches last) → more ≡ forks ++ fork ∷ []
     → fork.segments.items ≡ xs.items → fork.before.items ≡ found → fork.rest.items ≡ new → now ≡ []
     → AreReplacing ps found (reverse rest) (reverse forks) ready all at_search_start → AreReplacing ps now (reverse next)
     (reverse more) ready all at_search_start
@@ -234,7 +235,8 @@ replacing_fork {ps = ps} {found = found} {all = all} {ready = ready} {at_search_
     (subst (λ ys. AreReplacing ps found ys (reverse forks) ready all at_search_start) (popped_first rest new x rest_is) is))))
 
 pub replacing_close : {ps : QualifiedNameParts} {found now all : List PathBuilder} {ready at_search_start : List (Option PathBuilder)} (rest : List PathBuilder)
-    (forks new : List OpenFork) (fork : OpenFork) (put : Option PathBuilder) → rest ≡ [] → forks ≡ new ++ fork ∷ [] → now ≡ fork.before.items ++ option_to_list put
+    (forks new : List OpenFork) (fork : OpenFork) (put : Option PathBuilder)
+    → rest ≡ [] → forks ≡ new ++ fork ∷ [] → now ≡ fork.before.items ++ option_to_list put
     → AreReplacing ps found (reverse rest) (reverse forks) ready all at_search_start
     → ((root : RootView) → built_paths_of_option root put
     ≡ forest_below_reversed_links (link_heads_with_parts_replaced ps (reversed_link_heads_of_segments root fork.segments.items)) (built_paths root found))

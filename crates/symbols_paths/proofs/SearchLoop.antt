@@ -18,14 +18,15 @@ use Rattle.symbols_paths.specs.PartTargets.{search_targets_of_root}
 use Rattle.symbols_paths.specs.Choice.{IsOutcomeOfSymbolSearch, IsOutcomeOfSearchWithParts, no_parts, under}
 use Rattle.symbols_paths.specs.Computed.{search_limit}
 use Rattle.symbols_paths.specs.inner.Views.{symbol_of_unique_id}
-use Rattle.symbols_paths.specs.NeededModules.{AreNewlyStoredAmong}
+use Rattle.symbols_paths.specs.NeededModules.{AreNewlyStoredAmong, at_search_start, part_of_query}
+use Rattle.symbols_root.specs.Calls.{IsStored}
 use Rattle.symbols_paths.specs.laws.Storing.{newly_stored_by_two_calls}
 use Rattle.symbols_paths.specs.inner.PathBuilders.{remaining_parts, built_paths, modules_of_builders}
 use Rattle.symbols_paths.specs.inner.SearchSteps.{symbols_of_unique_ids, decls_of_aliases, AreVisitedGrownAndModulesStored, ArePathsFoundForSymbol}
-use Rattle.symbols_paths.specs.inner.SearchSteps.{ArePathsFoundWithParts}
+use Rattle.symbols_paths.specs.inner.SearchSteps.{ArePathsFoundWithParts, ArePathsFoundByNewSearch}
 use Rattle.symbols_paths.specs.inner.StillToCome.{HoldsAfterSymbolSearch, HoldsAfterPartsInForest, StepLeadsToResult}
 use Rattle.symbols_paths.specs.inner.SearchInvariants.{SearchStart, AreVisitedSymbolsFewEnoughForSet, IsNeededBySearchFromStart, IsSearchOfNeededModules}
-use Rattle.symbols_paths.specs.inner.SearchInvariants.{IsStepWithSameOutcomeAndLessWork, IsFinalResultOfSearch, is_search_over}
+use Rattle.symbols_paths.specs.inner.SearchInvariants.{IsStepWithSameOutcomeAndLessWork, IsFinalResultOfSearch, is_search_over, search_start_at_symbol}
 use Rattle.symbols_paths.proofs.ChosenComputed.{finds_longer, walks_longer}
 use Rattle.symbols_paths.proofs.Needing.{needed_in_older}
 
@@ -141,3 +142,37 @@ module _ {start : SearchStart} {root : RootView} {visited : List UniqueSymbolId}
     few = λ h. is.few (omega (arith, h, count));
     stored = is.stored;
   }
+
+-- ---- what a search found that began with no visited symbol
+
+module _ (old : RootView) (s : UniqueSymbolId) where
+  pub search_can_begin : IsStored old s.module_id → IsSearchOfNeededModules (search_start_at_symbol old [] [] [] s) old [] [] [] (Search s)
+  search_can_begin known = record {
+    running_so = refl;
+    aliases = λ k d h. absurd (omega (arith, h));
+    symbols = λ k d h. absurd (omega (arith, h));
+    few = λ h. h;
+    frames_valid = tt;
+    step_valid = (known, at_search_start);
+  }
+
+  pub search_can_begin_with_parts : (ps : SharedParts) → IsStored old s.module_id
+      → IsSearchOfNeededModules (search_start_at_symbol old [] [] (frame.Parts ps ∷ []) s) old [] [] (frame.Parts ps ∷ []) (Search s)
+  search_can_begin_with_parts ps known = record {
+    running_so = refl;
+    aliases = λ k d h. absurd (omega (arith, h));
+    symbols = λ k d h. absurd (omega (arith, h));
+    few = λ h. h;
+    frames_valid = (λ part has. part_of_query has, tt);
+    step_valid = (known, at_search_start);
+  }
+
+module _ (old : RootView) {new : RootView} (s : UniqueSymbolId) {after : List UniqueSymbolId} {paths : List PathBuilder} where
+  pub paths_of_new_search : IsFinalResultOfSearch (search_start_at_symbol old [] [] [] s) old [] [] (Search s) new after paths
+      → ArePathsFoundByNewSearch new s [] paths
+  paths_of_new_search is = record { after = after; found = λ later on. no_parts (symbol_found is later on); searched = symbol_searched refl is }
+
+  pub paths_of_new_search_with_parts : (ps : SharedParts)
+      → IsFinalResultOfSearch (search_start_at_symbol old [] [] (frame.Parts ps ∷ []) s) old [] (frame.Parts ps ∷ []) (Search s) new after paths
+      → ArePathsFoundByNewSearch new s (remaining_parts ps) paths
+  paths_of_new_search_with_parts ps is = record { after = after; found = parts_found ps is; searched = parts_searched ps refl is }

@@ -25,7 +25,8 @@ use Rattle.symbols_paths.specs.inner.PathBuilders.{modules_of_segments, modules_
 use Rattle.symbols_paths.proofs.Leaves.{leaves_of_forest-join}
 use Rattle.symbols_paths.proofs.NamedPathLemmas.{stored_both}
 use Rattle.symbols_paths.proofs.LoopInvariants.{join_assoc}
-use Rattle.symbols_paths.proofs.BuilderLemmas.{named_fork, modules_to, modules_fork, heads_of_under, modules_of_under, under_twice, stored_apart, defined_linked, defined_join}
+use Rattle.symbols_paths.proofs.BuilderLemmas.{named_fork, modules_to, modules_fork, heads_of_under, modules_of_under, under_twice, stored_apart}
+use Rattle.symbols_paths.proofs.BuilderLemmas.{defined_linked, defined_join}
 use Rattle.symbols_paths.proofs.BuilderDefinitions.{IsListedSoFar}
 use Rattle.symbols_paths.proofs.BuiltPaths.{AreLaid, heads_as_on, forest_on}
 use Rattle.symbols_paths.proofs.PathEnds.{AreEndsSo, AreBuilderEndsSo, leaves_linked, leaves_of_link, leaves_to, ends_next, builder_ends_next, end_stored}

@@ -1,6 +1,6 @@
 //! Builds definition paths from their builders.
 
-ghost use Rattle.std.specs.Prelude.{◌≡◌, ◌<◌, ◌∷◌, [], length, IfOk};
+ghost use Rattle.std.specs.Prelude.{◌≡◌, ◌<◌, ◌∷◌, ◌++◌, [], length, IfOk};
 ghost use Rattle.std.specs.Option.{option_map_or};
 ghost use Rattle.symbols_root.specs.Roots.{RootView};
 ghost use Rattle.symbols_paths.specs.declared.path_builder.PathBuilder.TheVariants as builder;
@@ -42,7 +42,7 @@ fn path_of_end<'a>(
             DefinitionPathNode::Unresolved(unresolved)
         }
     };
-    let mut paths = Vec::new(alloc);
+    let mut paths = Vec::with_capacity(alloc, 1)?;
     paths.push(path)?;
     Ok(paths)
 }
@@ -71,11 +71,11 @@ fn prepend_link<'a>(
         < length root.stored → AreModulesStored root (modules_of_paths next.entry.items)
         → AreModulesStored root (modules_of_paths paths.items)) }
 {
-    let mut paths = Vec::new(alloc);
     if next.is_empty() {
-        return Ok(paths);
+        return Ok(Vec::new(alloc));
     }
     let parts = strings_of_parts(alloc, &step.parts)?;
+    let mut paths = Vec::with_capacity(alloc, 1)?;
     paths.push(DefinitionPathNode::Resolved(DefinitionPathNodeResolved::Link(
         DefinitionPathLink {
             module: step.symbol.module_id,
@@ -138,9 +138,10 @@ fn prepend_link_with_parts<'a>(
     parts: &SharedParts,
     next: Vec<DefinitionPathNode<'a>>,
 ) -> Result<Vec<DefinitionPathNode<'a>>, AllocError>
-    ensures view { IfOk result (λ paths. (root : RootView) → paths_by_specifier root paths.items
-        ≡ forest_below_link_unless_empty (link_head_with_parts_replaced (link_head_of_step root step)
-        (remaining_parts parts.now)) (paths_by_specifier root next.entry.items)) }
+    ensures view { IfOk result (λ paths. (root : RootView)
+        → paths_by_specifier root paths.items ≡ forest_below_link_unless_empty
+        (link_head_with_parts_replaced (link_head_of_step root step) (remaining_parts parts.now))
+        (paths_by_specifier root next.entry.items)) }
     ensures stored { IfOk result (λ paths. (root : RootView) → step.symbol.module_id.0
         < length root.stored → AreModulesStored root (modules_of_paths next.entry.items)
         → AreModulesStored root (modules_of_paths paths.items)) }
@@ -204,6 +205,22 @@ fn path_below_segments<'a>(
     prepend_segments(alloc, segments, next)
 }
 
+/// Returns these paths, and more after them.
+fn with_paths<'a>(
+    paths: Vec<DefinitionPathNode<'a>>,
+    more: Vec<DefinitionPathNode<'a>>,
+) -> Result<Vec<DefinitionPathNode<'a>>, AllocError>
+    ensures { IfOk result (λ all. all.items ≡ paths.entry.items ++ more.entry.items) }
+{
+    if paths.is_empty() {
+        return Ok(more);
+    }
+    let mut all = paths;
+    let mut more = more;
+    all.append(&mut more)?;
+    Ok(all)
+}
+
 /// A fork whose branches are being built: its segments, the branches after the one that is being
 /// built, the next one last, and the paths before the fork.
 #[derive(Drop)]
@@ -232,8 +249,8 @@ pub(crate) fn build_paths<'a>(
         if let Some(builder) = rest.pop() {
             match builder.into_opened() {
                 OpenedBuilder::End(segments, end) => {
-                    let mut more = path_below_segments(alloc, segments, end)?;
-                    paths.append(&mut more)?;
+                    let more = path_below_segments(alloc, segments, end)?;
+                    paths = with_paths(paths, more)?;
                 }
                 OpenedBuilder::Fork(segments, branches, last) => {
                     let mut branches = branches;
@@ -257,10 +274,9 @@ pub(crate) fn build_paths<'a>(
                 rest: after,
                 before,
             } = fork;
-            let mut more = prepend_segments(alloc, segments, paths)?;
+            let more = prepend_segments(alloc, segments, paths)?;
             rest = after;
-            paths = before;
-            paths.append(&mut more)?;
+            paths = with_paths(before, more)?;
         }
     }
 }

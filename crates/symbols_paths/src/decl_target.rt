@@ -67,13 +67,12 @@ fn target_of_decl<'a>(
     decl: &SymbolDecl<'a>,
 ) -> Result<DeclTarget<'a>, AllocError>
     ensures decl_targets { IfOk result
-        (λ decl_target. (rules : Rules) (graph : GraphView) (s : SymbolBySpecifier) →
-        ((id : IdView)
-        → symbol_of_ident_in_table (symbol_table_of_ref info.entry) id ≡ symbol_of_id graph s.specifier
-        id)
-        → decl_target_view rules graph s decl_target
+        (λ decl_target. (rules : Rules) (graph : GraphView) (s : SymbolBySpecifier)
+        → ((id : IdView) → symbol_of_ident_in_table (symbol_table_of_ref info.entry) id
+        ≡ symbol_of_id graph s.specifier id) → decl_target_view rules graph s decl_target
         ≡ target_of_decl rules graph s (decl_view decl.now).range (decl_view decl.now).kind) }
-    ensures imports { IfOk result (λ decl_target. IsImportOrAliasTargetOfDecl decl_target (decl_view decl.now)) }
+    ensures imports { IfOk result
+        (λ decl_target. IsImportOrAliasTargetOfDecl decl_target (decl_view decl.now)) }
 {
     match &decl.kind {
         SymbolDeclKind::Definition(_) => Ok(DeclTarget::Definition(
@@ -104,9 +103,26 @@ fn target_of_decl<'a>(
     }
 }
 
+/// Returns what kind of definition a declaration is, or `None` if it is another name.
+pub(crate) fn definition_kind<'a>(decl: &SymbolDecl<'a>) -> Option<DefinitionKind<'a>>
+    ensures { IfSome result (λ kind. (rules : Rules) (graph : GraphView) (s : SymbolBySpecifier)
+        → decl_target_view rules graph s (DeclTarget.Definition kind decl.now.range)
+        ≡ target_of_decl rules graph s (decl_view decl.now).range (decl_view decl.now).kind) }
+{
+    match &decl.kind {
+        SymbolDeclKind::Definition(_) => Some(DefinitionKind::Definition),
+        SymbolDeclKind::FileRef(dep) => match dep.name {
+            FileDepName::Star => Some(DefinitionKind::ExportStar(*dep)),
+            FileDepName::Name(_) => None,
+        },
+        SymbolDeclKind::Target(_) => None,
+        SymbolDeclKind::QualifiedTarget(_, _) => None,
+    }
+}
+
 /// Returns the declarations of a symbol of a stored module, or `None` if the module has no such
 /// symbol.
-fn decls_of_symbol<'r, 'a>(
+pub(crate) fn decls_of_symbol<'r, 'a>(
     root: &'r RootSymbol<'a>,
     symbol: UniqueSymbolId,
 ) -> Option<&'r [SymbolDecl<'a>]>
@@ -134,7 +150,8 @@ pub(crate) fn decl_target_at<'a>(
         None)
         (IsTargetOfDeclAtIndex root.now.rules root.now.graph (symbol_of_unique_id root.now symbol)
         index)) }
-    ensures few { length (declarations_of root.now.graph (symbol_of_unique_id root.now symbol)) < 2 ^ 32 }
+    ensures few { length (declarations_of root.now.graph
+        (symbol_of_unique_id root.now symbol)) < 2 ^ 32 }
 {
     let Some(info) = root.module_from_id(symbol.module_id) else {
         return Ok(None);

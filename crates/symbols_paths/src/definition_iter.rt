@@ -158,8 +158,8 @@ pub(crate) fn ends_of_builders<'a>(
     alloc: Global,
     builders: Vec<PathBuilder<'a>>,
 ) -> Result<DefinitionsOrUnresolvedsIter<'a>, AllocError>
-    ensures view { IfOk result (λ ends. (root : RootView) → map (path_leaf_of_end root) (remaining_ends ends)
-        ≡ leaves_of_forest (built_paths root builders.entry.items)) }
+    ensures view { IfOk result (λ ends. (root : RootView) → map (path_leaf_of_end root)
+        (remaining_ends ends) ≡ leaves_of_forest (built_paths root builders.entry.items)) }
     ensures stored { IfOk result (λ ends. (root : RootView)
         → AreModulesStored root (modules_of_builders builders.entry.items)
         → AreModulesStored root (map module_of_end (remaining_ends ends))) }
@@ -174,9 +174,9 @@ fn add_definition<'a>(
     end: DefinitionOrUnresolved<'a>,
     left: &mut VecDeque<Definition<'a>>,
 ) -> Result<(), AllocError>
-    ensures view { OnOk result ((root : RootView) → map (definition_by_specifier root) left.new.items
-        ≡ map (definition_by_specifier root) left.old.items
-        ++ definitions_among (path_leaf_of_end root end.entry ∷ [])) }
+    ensures view { OnOk result ((root : RootView)
+        → map (definition_by_specifier root) left.new.items ≡ map (definition_by_specifier root)
+        left.old.items ++ definitions_among (path_leaf_of_end root end.entry ∷ [])) }
     ensures stored { OnOk result ((root : RootView)
         → AreModulesStored root (map module_of_definition left.old.items)
         → AreModulesStored root (module_of_end end.entry ∷ [])

@@ -35,7 +35,6 @@ use crate::path_builder::PathBuilder;
 use crate::symbol_dep::{
     ResolvedSymbolDepEntry, resolve_id_dep, resolve_import_type_dep, shared_parts_of,
 };
-use indexmap::IndexSet;
 use symbols_exports::laws::exports_are_listed;
 use symbols_graph::ids::{ModuleId, SymbolId, UniqueSymbolId};
 use symbols_nodes::deps::SymbolNodeDep;
@@ -131,12 +130,15 @@ fn path_builders<'a>(
     ensures known { IfOk result (λ builders. HasSymbol root.old module_id symbol_id) }
     ensures stored { IfOk result
         (λ builders. AreModulesStored root.new (modules_of_builders builders.items)) }
-    ensures faults { IfErr result (IsFindDefinitionPathsFault root.old root.new module_id symbol_id) }
+    ensures faults { IfErr result
+        (IsFindDefinitionPathsFault root.old root.new module_id symbol_id) }
     ensures grown { HasGrown root.old root.new }
-    ensures stores { AreNewlyStoredNeededBySearch root.old root.new (specifier_in root.old module_id) }
+    ensures stores { AreNewlyStoredNeededBySearch root.old root.new
+        (specifier_in root.old module_id) }
     ensures exports_listed { (start : List ℕ)
         → AreExportListsCorrectAndUnique root.old.graph start }
-    ensures enough { HasSymbol root.old module_id symbol_id → IsOnlyOutOfMemoryByWidestLimits root.old result }
+    ensures enough { HasSymbol root.old module_id symbol_id
+        → IsOnlyOutOfMemoryByWidestLimits root.old result }
 {
     exports_are_listed(root);
     match root.module_from_id(module_id) {
@@ -147,10 +149,7 @@ fn path_builders<'a>(
             }
         }
     }
-    let mut resolving = IndexSet::new(root.alloc());
-    let mut visited = IndexSet::new(root.alloc());
-    let symbol = UniqueSymbolId::new(module_id, symbol_id);
-    find_definition_paths_internal(root, &mut resolving, &mut visited, symbol)
+    find_definition_paths_internal(root, UniqueSymbolId::new(module_id, symbol_id))
 }
 
 impl<'a> FindDefinitions<'a> for RootSymbol<'a> {
@@ -159,15 +158,17 @@ impl<'a> FindDefinitions<'a> for RootSymbol<'a> {
         module_id: ModuleId,
         symbol_id: SymbolId,
     ) -> Result<Vec<DefinitionPathNode<'a>>, SymbolsFault>
-        ensures answers { IfOk result
-            (λ paths. IsFindDefinitionPathsResult self.old self.new module_id symbol_id paths.items) }
+        ensures answers { IfOk result (λ paths.
+            IsFindDefinitionPathsResult self.old self.new module_id symbol_id paths.items) }
         ensures listed { IfOk result (λ paths. paths_by_specifier self.new paths.items
             ≡ definition_paths_of self.old.rules self.old.graph
             (symbol_by_specifier self.old module_id
             symbol_id)) }
-        ensures faults { IfErr result (IsFindDefinitionPathsFault self.old self.new module_id symbol_id) }
+        ensures faults { IfErr result
+            (IsFindDefinitionPathsFault self.old self.new module_id symbol_id) }
         ensures grown { HasGrown self.old self.new }
-        ensures stores { AreNewlyStoredNeededBySearch self.old self.new (specifier_in self.old module_id) }
+        ensures stores { AreNewlyStoredNeededBySearch self.old self.new
+            (specifier_in self.old module_id) }
         ensures only { (f g : PathForest)
             → IsForestFoundBySearch (search_targets_of_root self.old)
             (symbol_by_specifier self.old module_id symbol_id) f
@@ -201,9 +202,11 @@ impl<'a> FindDefinitions<'a> for RootSymbol<'a> {
         ensures known { IfOk result (λ ends. HasSymbol self.old module_id symbol_id) }
         ensures stored { IfOk result
             (λ ends. AreModulesStored self.new (map module_of_end (remaining_ends ends))) }
-        ensures faults { IfErr result (IsFindDefinitionPathsFault self.old self.new module_id symbol_id) }
+        ensures faults { IfErr result
+            (IsFindDefinitionPathsFault self.old self.new module_id symbol_id) }
         ensures grown { HasGrown self.old self.new }
-        ensures stores { AreNewlyStoredNeededBySearch self.old self.new (specifier_in self.old module_id) }
+        ensures stores { AreNewlyStoredNeededBySearch self.old self.new
+            (specifier_in self.old module_id) }
         ensures exports_listed { (start : List ℕ)
             → AreExportListsCorrectAndUnique self.old.graph start }
         ensures enough { HasSymbol self.old module_id symbol_id
@@ -235,9 +238,11 @@ impl<'a> FindDefinitions<'a> for RootSymbol<'a> {
         ensures stored { IfOk result (λ definitions.
             AreModulesStored self.new
             (map module_of_definition (remaining_definitions definitions))) }
-        ensures faults { IfErr result (IsFindDefinitionPathsFault self.old self.new module_id symbol_id) }
+        ensures faults { IfErr result
+            (IsFindDefinitionPathsFault self.old self.new module_id symbol_id) }
         ensures grown { HasGrown self.old self.new }
-        ensures stores { AreNewlyStoredNeededBySearch self.old self.new (specifier_in self.old module_id) }
+        ensures stores { AreNewlyStoredNeededBySearch self.old self.new
+            (specifier_in self.old module_id) }
         ensures exports_listed { (start : List ℕ)
             → AreExportListsCorrectAndUnique self.old.graph start }
         ensures enough { HasSymbol self.old module_id symbol_id
@@ -260,9 +265,10 @@ impl<'a> FindDefinitions<'a> for RootSymbol<'a> {
             × AreResolvedEntriesOfReference self.old.rules self.old.graph (specifier_in self.old
             module_id) (reference_view dep.now)
             (map (resolved_dep_entry_view self.new) entries.items)) }
-        ensures listed { IfOk result (λ entries. map (resolved_dep_entry_view self.new) entries.items
-            ≡ dep_entries_of self.old.rules self.old.graph (specifier_in self.old
-            module_id) (reference_view dep.now)) }
+        ensures listed { IfOk result
+            (λ entries. map (resolved_dep_entry_view self.new) entries.items
+            ≡ dep_entries_of self.old.rules self.old.graph
+            (specifier_in self.old module_id) (reference_view dep.now)) }
         ensures stored { IfOk result
             (λ entries. AreModulesStored self.new (modules_of_entries entries.items)) }
         ensures faults { IfErr result
@@ -275,7 +281,8 @@ impl<'a> FindDefinitions<'a> for RootSymbol<'a> {
             → IsForestFoundBySearchWithParts (search_targets_of_root self.old) s parts g → f ≡ g }
         ensures exports_listed { (start : List ℕ)
             → AreExportListsCorrectAndUnique self.old.graph start }
-        ensures enough { IsStored self.old module_id → IsOnlyOutOfMemoryByWidestLimits self.old result }
+        ensures enough { IsStored self.old module_id
+            → IsOnlyOutOfMemoryByWidestLimits self.old result }
     {
         exports_are_listed(self);
         if self.module_from_id(module_id).is_none() {

@@ -1,6 +1,6 @@
 //! Follows the declarations of symbols.
 
-ghost use Rattle.std.specs.Prelude.{◌≡◌, ◌+◌, ◌<◌, ◌^◌, [], slice_get, Contains, IfOk, None};
+ghost use Rattle.std.specs.Prelude.{◌≡◌, ◌+◌, ◌<◌, ◌^◌, [], slice_get, Contains, IfOk, IfSome, None};
 ghost use Rattle.symbols_ast.specs.Ids.{id_view};
 ghost use Rattle.symbols_table.specs.DeclViews.{Declaration};
 ghost use Rattle.symbols_root.specs.Roots.{RootView, specifier_in};
@@ -16,7 +16,7 @@ ghost use Rattle.symbols_paths.specs.inner.Views.{symbol_of_unique_id};
 ghost use Rattle.symbols_paths.specs.inner.PathBuilders.{remaining_parts, built_paths};
 ghost use Rattle.symbols_paths.specs.inner.PathBuilders.{modules_of_builders};
 ghost use Rattle.symbols_paths.specs.inner.Needed.{HasGrownAndFailsOnlyStoringOneOf};
-ghost use Rattle.symbols_paths.specs.inner.SearchSteps.{IsTargetOfDeclAtIndex};
+ghost use Rattle.symbols_paths.specs.inner.SearchSteps.{IsTargetOfDeclAtIndex, ArePathsFoundByNewSearch};
 ghost use Rattle.symbols_paths.specs.inner.StillToCome.{link_head_of_current_decl, unresolved_entry_of_missing_export};
 ghost use Rattle.symbols_paths.specs.inner.SearchInvariants.{SearchStart, IsNeededBySearchFromStart};
 ghost use Rattle.symbols_paths.specs.inner.SearchInvariants.{IsExpansionAtNextDecl, IsStateOfNeededModules};
@@ -24,7 +24,8 @@ ghost use Rattle.symbols_paths.specs.inner.SearchInvariants.{IsStateStepWithSame
 
 use crate::alias_decl::AliasDecl;
 use crate::decl_target::{
-    DeclTarget, NamedImport, decl_target_at, explicit_export, searches_stars_for, star_specifier,
+    DeclTarget, NamedImport, decl_target_at, decls_of_symbol, definition_kind, explicit_export,
+    searches_stars_for, star_specifier,
 };
 use crate::definition::DefinitionKind;
 use crate::definition_unresolved::DefinitionUnresolvedKind;
@@ -99,7 +100,8 @@ pub(crate) fn with_link<'a>(
     next: Vec<PathBuilder<'a>>,
 ) -> Result<Expansion<'a>, AllocError>
     requires { here.index + 1 < 2 ^ 32 }
-    ensures next { IfOk result (λ after. IsExpansionAtNextDecl here.entry after (λ root. forest_below_link_unless_empty
+    ensures next { IfOk result (λ after. IsExpansionAtNextDecl here.entry after
+        (λ root. forest_below_link_unless_empty
         (link_head_of_current_decl root here.entry symbol) (built_paths root next.entry.items))) }
     ensures stored { IfOk result (λ after. (root : RootView) → IsStored root symbol.module_id
         → AreModulesStored root (modules_of_builders here.entry.paths.items)
@@ -121,9 +123,9 @@ pub(crate) fn with_alias_link<'a>(
     next: Vec<PathBuilder<'a>>,
 ) -> Result<Expansion<'a>, AllocError>
     requires { here.index + 1 < 2 ^ 32 }
-    ensures next { IfOk result (λ after. IsExpansionAtNextDecl here.entry after (λ root. forest_below_link_unless_empty
-        (alias_link_head (symbol_of_unique_id root here.entry.symbol) here.entry.index
-        (remaining_parts parts.now)) (built_paths root next.entry.items))) }
+    ensures next { IfOk result (λ after. IsExpansionAtNextDecl here.entry after (λ root.
+        forest_below_link_unless_empty (alias_link_head (symbol_of_unique_id root here.entry.symbol)
+        here.entry.index (remaining_parts parts.now)) (built_paths root next.entry.items))) }
     ensures stored { IfOk result (λ after. (root : RootView)
         → IsStored root here.entry.symbol.module_id
         → AreModulesStored root (modules_of_builders here.entry.paths.items)
@@ -145,12 +147,13 @@ fn with_unresolved_id<'a>(
     parts: &SharedParts,
 ) -> Result<Expansion<'a>, AllocError>
     requires { here.index + 1 < 2 ^ 32 }
-    ensures next { IfOk result (λ next. IsExpansionAtNextDecl here.entry next (λ root. forest_of_tree (link
-        (alias_link_head (symbol_of_unique_id root here.entry.symbol) here.entry.index
-        (remaining_parts parts.now))
-        (forest_of_tree (leaf (unresolved (record {
+    ensures next { IfOk result (λ next. IsExpansionAtNextDecl here.entry next
+        (λ root. forest_of_tree (link (alias_link_head (symbol_of_unique_id root here.entry.symbol)
+        here.entry.index (remaining_parts parts.now)) (forest_of_tree (leaf (unresolved
+        (record {
           specifier = specifier_in root here.entry.symbol.module_id;
-          reason = no_symbol (id_view id.now);
+          reason = no_symbol
+              (id_view id.now);
           parts = remaining_parts parts.now;
         }))))))) }
     ensures stored { IfOk result (λ next. (root : RootView)
@@ -162,6 +165,34 @@ fn with_unresolved_id<'a>(
     let decl = here.decl();
     push_unresolved_id(alloc, here.symbol, decl, id, parts, &mut here.paths)?;
     Ok(at_next_decl(here))
+}
+
+/// Returns the paths of a symbol whose declarations are all definitions, or `None` if one is
+/// another name. Such a symbol needs no frame, and no set of visited symbols.
+pub(crate) fn definitions_alone<'a>(
+    root: &RootSymbol<'a>,
+    symbol: UniqueSymbolId,
+) -> Result<Option<Vec<PathBuilder<'a>>>, AllocError>
+    requires { IsStored root.now symbol.module_id }
+    ensures { IfOk result (λ found. IfSome found
+        (λ paths. ArePathsFoundByNewSearch root.now symbol [] paths.items)) }
+{
+    stored_modules_distinct(root);
+    let Some(decls) = decls_of_symbol(root, symbol) else {
+        return Ok(None);
+    };
+    let mut here = Expansion {
+        symbol,
+        index: 0,
+        paths: Vec::new(root.alloc()),
+    };
+    'decls: while let Some(decl) = decls.get(here.index as usize) {
+        let Some(kind) = definition_kind(decl) else {
+            return Ok(None);
+        };
+        here = with_definition(root.alloc(), here, kind, decl.range)?;
+    }
+    Ok(Some(here.paths))
 }
 
 /// Begins the search of a symbol, which has no path if this search visited it before.
@@ -197,11 +228,12 @@ pub(crate) fn follow_next_decl<'a>(
 ) -> Result<Step<'a>, SymbolsFault>
     ghost start: { SearchStart }
     requires { IsStateOfNeededModules start root.old state.old (Step.Expand here) }
-    ensures keeps { HasGrownAndFailsOnlyStoringOneOf root.old root.new (IsNeededBySearchFromStart start root.old)
-        result }
-    ensures stores { AreNewlyStoredAmong root.old root.new (IsNeededBySearchFromStart start root.old) }
-    ensures steps { IfOk result (λ next. IsStateStepWithSameOutcomeAndLessWork start root.old state.old
-        (Step.Expand here.entry) root.new state.new next) }
+    ensures keeps { HasGrownAndFailsOnlyStoringOneOf root.old root.new
+        (IsNeededBySearchFromStart start root.old) result }
+    ensures stores { AreNewlyStoredAmong root.old root.new
+        (IsNeededBySearchFromStart start root.old) }
+    ensures steps { IfOk result (λ next. IsStateStepWithSameOutcomeAndLessWork
+        start root.old state.old (Step.Expand here.entry) root.new state.new next) }
 {
     let symbol = here.symbol;
     let index = here.index;
@@ -224,11 +256,12 @@ fn follow_decl<'a>(
     requires reads { IsTargetOfDeclAtIndex root.old.rules root.old.graph
         (symbol_of_unique_id root.old here.symbol) here.index decl_target }
     requires fits { here.index + 1 < 2 ^ 32 }
-    ensures keeps { HasGrownAndFailsOnlyStoringOneOf root.old root.new (IsNeededBySearchFromStart start root.old)
-        result }
-    ensures stores { AreNewlyStoredAmong root.old root.new (IsNeededBySearchFromStart start root.old) }
-    ensures steps { IfOk result (λ next. IsStateStepWithSameOutcomeAndLessWork start root.old state.old
-        (Step.Expand here.entry) root.new state.new next) }
+    ensures keeps { HasGrownAndFailsOnlyStoringOneOf root.old root.new
+        (IsNeededBySearchFromStart start root.old) result }
+    ensures stores { AreNewlyStoredAmong root.old root.new
+        (IsNeededBySearchFromStart start root.old) }
+    ensures steps { IfOk result (λ next. IsStateStepWithSameOutcomeAndLessWork
+        start root.old state.old (Step.Expand here.entry) root.new state.new next) }
 {
     match decl_target {
         DeclTarget::Definition(kind, range) => {
@@ -278,7 +311,7 @@ fn begin_alias<'a>(
         return Ok(Step::Expand(at_next_decl(here)));
     }
     let target = UniqueSymbolId::new(here.symbol.module_id, symbol_id);
-    let waits = Frame::Parts(parts.same()?);
+    let waits = parts.same()?;
     let visited = std::mem::replace(&mut state.visited, IndexSet::new(root.alloc()));
     let outer = AliasSearch {
         here,
@@ -287,7 +320,10 @@ fn begin_alias<'a>(
     };
     let outer = Box::new(root.alloc(), outer)?;
     state.frames.push_front(Frame::Alias(outer))?;
-    state.frames.push_front(waits)?;
+    if waits.is_empty() {
+        return Ok(Step::Search(target));
+    }
+    state.frames.push_front(Frame::Parts(waits))?;
     Ok(Step::Search(target))
 }
 
@@ -305,11 +341,12 @@ fn follow_import<'a>(
         (symbol_of_unique_id root.old here.symbol) here.index
         (DeclTarget.Import named_import.now) }
     requires fits { here.index + 1 < 2 ^ 32 }
-    ensures keeps { HasGrownAndFailsOnlyStoringOneOf root.old root.new (IsNeededBySearchFromStart start root.old)
-        result }
-    ensures stores { AreNewlyStoredAmong root.old root.new (IsNeededBySearchFromStart start root.old) }
-    ensures steps { IfOk result (λ next. IsStateStepWithSameOutcomeAndLessWork start root.old state.old
-        (Step.Expand here.entry) root.new state.new next) }
+    ensures keeps { HasGrownAndFailsOnlyStoringOneOf root.old root.new
+        (IsNeededBySearchFromStart start root.old) result }
+    ensures stores { AreNewlyStoredAmong root.old root.new
+        (IsNeededBySearchFromStart start root.old) }
+    ensures steps { IfOk result (λ next. IsStateStepWithSameOutcomeAndLessWork
+        start root.old state.old (Step.Expand here.entry) root.new state.new next) }
 {
     let symbol = here.symbol;
     let module_id = match resolve_specifier(root, symbol.module_id, named_import.specifier_text) {
@@ -355,8 +392,8 @@ fn with_missing_export<'a>(
     name: &str,
 ) -> Result<Expansion<'a>, AllocError>
     requires { here.index + 1 < 2 ^ 32 }
-    ensures next { IfOk result (λ next. IsExpansionAtNextDecl here.entry next (λ root. forest_below_link_unless_empty
-        (link_head_of_current_decl root here.entry here.entry.symbol)
+    ensures next { IfOk result (λ next. IsExpansionAtNextDecl here.entry next (λ root.
+        forest_below_link_unless_empty (link_head_of_current_decl root here.entry here.entry.symbol)
         (forest_of_unresolved (unresolved_entry_of_missing_export root module_id name.now)))) }
     ensures stored { IfOk result (λ next. (root : RootView)
         → IsStored root here.entry.symbol.module_id
@@ -377,11 +414,12 @@ pub(crate) fn try_next_star<'a>(
 ) -> Result<Step<'a>, SymbolsFault>
     ghost start: { SearchStart }
     requires { IsStateOfNeededModules start root.old state.old (Step.TryStar star) }
-    ensures keeps { HasGrownAndFailsOnlyStoringOneOf root.old root.new (IsNeededBySearchFromStart start root.old)
-        result }
-    ensures stores { AreNewlyStoredAmong root.old root.new (IsNeededBySearchFromStart start root.old) }
-    ensures steps { IfOk result (λ next. IsStateStepWithSameOutcomeAndLessWork start root.old state.old
-        (Step.TryStar star.entry) root.new state.new next) }
+    ensures keeps { HasGrownAndFailsOnlyStoringOneOf root.old root.new
+        (IsNeededBySearchFromStart start root.old) result }
+    ensures stores { AreNewlyStoredAmong root.old root.new
+        (IsNeededBySearchFromStart start root.old) }
+    ensures steps { IfOk result (λ next. IsStateStepWithSameOutcomeAndLessWork
+        start root.old state.old (Step.TryStar star.entry) root.new state.new next) }
 {
     let mut star = star;
     let module_id = star.module_id;

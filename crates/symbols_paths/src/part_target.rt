@@ -135,8 +135,8 @@ pub(crate) fn import_part_target(
 ) -> Result<PartTarget, SymbolsFault>
     requires known { IsStored root.old module_id }
     requires some { 0 < length parts.now }
-    ensures keeps { HasGrownAndFailsOnlyStoringOneOf root.old root.new (IsSearchedInImport root.old module_id
-        specifier_text.now (first_part (strings_view parts.now))) result }
+    ensures keeps { HasGrownAndFailsOnlyStoringOneOf root.old root.new (IsSearchedInImport
+        root.old module_id specifier_text.now (first_part (strings_view parts.now))) result }
     ensures view { IfOk result (λ part_target. part_target_view root.new part_target
         ≡ import_part_target root.old.graph (specifier_in root.old module_id) specifier_text.now
         (first_part (strings_view parts.now)) (later_parts (strings_view parts.now))
@@ -167,7 +167,8 @@ pub(crate) fn part_target_of(
 ) -> Result<PartTarget, SymbolsFault>
     requires known { IsStored root.old definition.now.«module» }
     requires some { 0 < length parts.now }
-    requires declared { IsStarImportDeclared root.old.graph (definition_by_specifier root.old definition.now) }
+    requires declared { IsStarImportDeclared root.old.graph
+        (definition_by_specifier root.old definition.now) }
     ensures keeps { HasGrownAndFailsOnlyStoringOneOf root.old root.new
         (IsNeededFrom root.old definition.now.«module» (strings_view parts.now)) result }
     ensures view { IfOk result (λ part_target. part_target_view root.new part_target

@@ -1,6 +1,6 @@
 //! Definition paths while they are built.
 
-ghost use Rattle.std.specs.Prelude.{IfOk, IfSome, ◌≡◌, ◌++◌, ◌∷◌, []};
+ghost use Rattle.std.specs.Prelude.{IfOk, IfSome, OnOk, ◌≡◌, ◌++◌, ◌∷◌, []};
 ghost use Rattle.std.specs.Option.{option_to_list};
 ghost use Rattle.symbols_root.specs.Roots.{RootView};
 ghost use Rattle.symbols_paths.specs.declared.path_builder.Segment.TheVariants as segment;
@@ -185,13 +185,39 @@ pub(crate) fn builder_of_end<'a>(alloc: Global, end: DefinitionOrUnresolved<'a>)
     PathBuilder::End(Vec::new(alloc), end)
 }
 
+/// Adds a segment. The first one gets room for itself alone, since many lists have one.
+fn add_segment(segments: &mut Vec<Segment>, segment: Segment) -> Result<(), AllocError>
+    ensures { OnOk result (segments.new.items ≡ segments.old.items ++ segment ∷ []) }
+{
+    if segments.is_empty() {
+        segments.reserve_exact(1)?;
+    }
+    segments.push(segment)?;
+    Ok(())
+}
+
+/// Adds a builder. The first one gets room for itself alone, since many lists have one.
+pub(crate) fn add_builder<'a>(
+    builders: &mut Vec<PathBuilder<'a>>,
+    builder: PathBuilder<'a>,
+) -> Result<(), AllocError>
+    ensures { OnOk result (builders.new.items ≡ builders.old.items ++ builder.entry ∷ []) }
+{
+    if builders.is_empty() {
+        builders.reserve_exact(1)?;
+    }
+    builders.push(builder)?;
+    Ok(())
+}
+
 /// Adds a segment in front of a builder.
 pub(crate) fn push_segment<'a>(
     builder: PathBuilder<'a>,
     segment: Segment,
 ) -> Result<PathBuilder<'a>, AllocError>
-    ensures view { IfOk result (λ longer. (root : RootView) → built_path root longer
-        ≡ forest_below_reversed_links (reversed_link_heads_of_segment root segment) (built_path root builder.entry)) }
+    ensures view { IfOk result (λ longer. (root : RootView)
+        → built_path root longer ≡ forest_below_reversed_links
+        (reversed_link_heads_of_segment root segment) (built_path root builder.entry)) }
     ensures stored { IfOk result (λ longer. (root : RootView)
         → AreModulesStored root (modules_of_segment segment)
         → AreModulesStored root (modules_of_builder builder.entry)
@@ -200,12 +226,12 @@ pub(crate) fn push_segment<'a>(
     match builder.into_opened() {
         OpenedBuilder::End(segments, end) => {
             let mut segments = segments;
-            segments.push(segment)?;
+            add_segment(&mut segments, segment)?;
             Ok(PathBuilder::End(segments, end))
         }
         OpenedBuilder::Fork(segments, branches, last) => {
             let mut segments = segments;
-            segments.push(segment)?;
+            add_segment(&mut segments, segment)?;
             Ok(PathBuilder::Fork(segments, branches, last))
         }
     }
@@ -229,6 +255,7 @@ pub(crate) fn join_builders<'a>(
     if builders.is_empty() {
         return Ok(Some(last));
     }
+    builders.shrink_to_fit();
     let last = Box::new(alloc, last)?;
     Ok(Some(PathBuilder::Fork(Vec::new(alloc), builders, last)))
 }

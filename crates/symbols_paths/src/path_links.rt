@@ -19,7 +19,7 @@ use crate::definition::{DeclRef, Definition, DefinitionKind};
 use crate::definition_iter::DefinitionOrUnresolved;
 use crate::definition_unresolved::{DefinitionUnresolved, DefinitionUnresolvedKind};
 use crate::path_builder::{
-    LinkStep, PathBuilder, Segment, builder_of_end, join_builders, push_segment,
+    LinkStep, PathBuilder, Segment, add_builder, builder_of_end, join_builders, push_segment,
 };
 use crate::shared_parts::SharedParts;
 use std::alloc::{AllocError, Global};
@@ -60,8 +60,9 @@ fn link_builder_of_step<'a>(
     step: LinkStep,
     next: Vec<PathBuilder<'a>>,
 ) -> Result<Option<PathBuilder<'a>>, AllocError>
-    ensures view { IfOk result (λ builder. (root : RootView) → built_paths_of_option root builder
-        ≡ forest_below_link_unless_empty (link_head_of_step root step) (built_paths root next.entry.items)) }
+    ensures view { IfOk result (λ builder. (root : RootView)
+        → built_paths_of_option root builder ≡ forest_below_link_unless_empty
+        (link_head_of_step root step) (built_paths root next.entry.items)) }
     ensures stored { IfOk result (λ builder. (root : RootView)
         → step.symbol.module_id.0 < length root.stored
         → AreModulesStored root (modules_of_builders next.entry.items)
@@ -141,7 +142,7 @@ pub(crate) fn push_builder<'a>(
         (builders.new.items ≡ builders.old.items ++ option_to_list builder.entry) }
 {
     if let Some(builder) = builder {
-        builders.push(builder)?;
+        add_builder(builders, builder)?;
     }
     Ok(())
 }
@@ -156,7 +157,7 @@ pub(crate) fn unresolved_builder<'a>(
     ensures stored { IfOk result (λ builders. (root : RootView) → missing.«module».0
         < length root.stored → AreModulesStored root (modules_of_builders builders.items)) }
 {
-    let mut builders = Vec::new(alloc);
+    let mut builders = Vec::with_capacity(alloc, 1)?;
     builders.push(builder_of_end(alloc, DefinitionOrUnresolved::Unresolved(missing)))?;
     Ok(builders)
 }
@@ -281,7 +282,7 @@ pub(crate) fn push_definition<'a>(
         → AreModulesStored root (modules_of_builder builder))) }
 {
     let builder = definition_path(alloc, module, symbol_decl, kind, range);
-    builders.push(builder)?;
+    add_builder(builders, builder)?;
     Ok(())
 }
 

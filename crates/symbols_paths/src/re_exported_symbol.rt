@@ -25,7 +25,8 @@ pub(crate) fn resolve_specifier(
     specifier_text: &str,
 ) -> Result<Option<ModuleId>, SymbolsFault>
     requires { IsStored root.old referrer }
-    ensures keeps { HasGrownAndFailsOnlyFor root.old root.new (IsStoringFault root.old (resolve_specifier root.old.graph
+    ensures keeps { HasGrownAndFailsOnlyFor root.old root.new
+        (IsStoringFault root.old (resolve_specifier root.old.graph
         (specifier_in root.old referrer) specifier_text.now)) result }
     ensures gives { IfOk result (λ id. option_map (maybe_specifier root.new) id
         ≡ option_map (λ s. Some s) (resolve_specifier root.old.graph

@@ -31,9 +31,9 @@ fn list_end<'a>(
     end: &DefinitionOrUnresolved<'a>,
     found: &mut Vec<Definition<'a>>,
 ) -> Result<(), AllocError>
-    ensures view { OnOk result ((root : RootView) → map (definition_by_specifier root) found.new.items
-        ≡ map (definition_by_specifier root) found.old.items
-        ++ definitions_of_tree (leaf (path_leaf_of_end root end.now))) }
+    ensures view { OnOk result ((root : RootView)
+        → map (definition_by_specifier root) found.new.items ≡ map (definition_by_specifier root)
+        found.old.items ++ definitions_of_tree (leaf (path_leaf_of_end root end.now))) }
     ensures stored { OnOk result ((root : RootView)
         → AreModulesStored root (map module_of_definition found.old.items)
         → AreModulesStored root (module_of_end end.now ∷ [])
@@ -70,9 +70,9 @@ fn list_definition<'a>(
     builder: &PathBuilder<'a>,
     found: &mut Vec<Definition<'a>>,
 ) -> Result<(), AllocError>
-    ensures view { OnOk result ((root : RootView) → map (definition_by_specifier root) found.new.items
-        ≡ map (definition_by_specifier root) found.old.items
-        ++ definitions_of_forest (built_path root builder.now)) }
+    ensures view { OnOk result ((root : RootView)
+        → map (definition_by_specifier root) found.new.items ≡ map (definition_by_specifier root)
+        found.old.items ++ definitions_of_forest (built_path root builder.now)) }
     ensures stored { OnOk result ((root : RootView)
         → AreModulesStored root (map module_of_definition found.old.items)
         → AreModulesStored root (modules_of_builder builder.now)
@@ -100,13 +100,14 @@ pub(crate) fn definitions_among<'a>(
     alloc: Global,
     builders: &[PathBuilder<'a>],
 ) -> Result<Vec<Definition<'a>>, AllocError>
-    ensures view { IfOk result (λ found. (root : RootView) → map (definition_by_specifier root) found.items
+    ensures view { IfOk result (λ found. (root : RootView)
+        → map (definition_by_specifier root) found.items
         ≡ definitions_of_forest (built_paths root builders.now)) }
     ensures stored { IfOk result (λ found. (root : RootView)
         → AreModulesStored root (modules_of_builders builders.now)
         → AreModulesStored root (map module_of_definition found.items)) }
 {
-    let mut found = Vec::new(alloc);
+    let mut found = Vec::with_capacity(alloc, builders.len())?;
     for builder in builders {
         list_definition(alloc, builder, &mut found)?;
     }
@@ -132,11 +133,11 @@ pub(crate) fn replace_definitions<'a>(
     changed: &mut VecDeque<Option<PathBuilder<'a>>>,
 ) -> Result<Vec<PathBuilder<'a>>, AllocError>
     ensures found { IfOk result (λ found. (root : RootView) → built_paths root found.items
-        ≡ (forest_with_definitions_replaced (remaining_parts parts.now) (built_paths root builders.entry.items)
-        (map (built_paths_of_option root) changed.old.items)).0) }
+        ≡ (forest_with_definitions_replaced (remaining_parts parts.now) (built_paths
+        root builders.entry.items) (map (built_paths_of_option root) changed.old.items)).0) }
     ensures left { OnOk result ((root : RootView)
-        → map (built_paths_of_option root) changed.new.items
-        ≡ (forest_with_definitions_replaced (remaining_parts parts.now) (built_paths root builders.entry.items)
+        → map (built_paths_of_option root) changed.new.items ≡ (forest_with_definitions_replaced
+        (remaining_parts parts.now) (built_paths root builders.entry.items)
         (map (built_paths_of_option root) changed.old.items)).1) }
     ensures stored { IfOk result (λ found. (root : RootView)
         → AreModulesStored root (modules_of_builders builders.entry.items)
@@ -223,8 +224,9 @@ fn with_segments<'a>(
     builder: Option<PathBuilder<'a>>,
 ) -> Result<Option<PathBuilder<'a>>, AllocError>
     ensures view { IfOk result (λ found. (root : RootView) → built_paths_of_option root found
-        ≡ forest_below_reversed_links (link_heads_with_parts_replaced (remaining_parts parts.now)
-        (reversed_link_heads_of_segments root segments.items)) (built_paths_of_option root builder.entry)) }
+        ≡ forest_below_reversed_links (link_heads_with_parts_replaced
+        (remaining_parts parts.now) (reversed_link_heads_of_segments root segments.items))
+        (built_paths_of_option root builder.entry)) }
     ensures stored { IfOk result (λ found. (root : RootView)
         → AreModulesStored root (modules_of_segments segments.items)
         → AreModulesStored root (modules_of_builders (option_to_list builder.entry))

@@ -43,11 +43,11 @@ pub(crate) fn resume_frame<'a>(
     paths: Vec<PathBuilder<'a>>,
 ) -> Result<Step<'a>, AllocError>
     ghost start: { SearchStart }
-    requires { IsSearchOfNeededModules start root.now state.old.resolving.keys state.old.visited.keys
-        (frame ∷ state.old.frames.items) (Step.Found paths) }
-    ensures { IfOk result (λ next. IsStepWithSameOutcomeAndLessWork start root.now state.old.visited.keys
-        (frame.entry ∷ state.old.frames.items) (Step.Found paths.entry) root.now
-        state.new.resolving.keys state.new.visited.keys state.new.frames.items next) }
+    requires { IsSearchOfNeededModules start root.now state.old.resolving.keys
+        state.old.visited.keys (frame ∷ state.old.frames.items) (Step.Found paths) }
+    ensures { IfOk result (λ next. IsStepWithSameOutcomeAndLessWork start root.now
+        state.old.visited.keys (frame.entry ∷ state.old.frames.items) (Step.Found paths.entry)
+        root.now state.new.resolving.keys state.new.visited.keys state.new.frames.items next) }
 {
     match frame {
         Frame::Link(here, symbol) => Ok(Step::Expand(with_link(
@@ -91,11 +91,12 @@ fn resume_alias<'a>(
     paths: Vec<PathBuilder<'a>>,
 ) -> Result<Step<'a>, AllocError>
     ghost start: { SearchStart }
-    requires { IsSearchOfNeededModules start root.now state.old.resolving.keys state.old.visited.keys
-        (Frame.Alias alias ∷ state.old.frames.items) (Step.Found paths) }
-    ensures { IfOk result (λ next. IsStepWithSameOutcomeAndLessWork start root.now state.old.visited.keys
-        (Frame.Alias alias.entry ∷ state.old.frames.items) (Step.Found paths.entry) root.now
-        state.new.resolving.keys state.new.visited.keys state.new.frames.items next) }
+    requires { IsSearchOfNeededModules start root.now state.old.resolving.keys
+        state.old.visited.keys (Frame.Alias alias ∷ state.old.frames.items) (Step.Found paths) }
+    ensures { IfOk result
+        (λ next. IsStepWithSameOutcomeAndLessWork start root.now state.old.visited.keys
+        (Frame.Alias alias.entry ∷ state.old.frames.items) (Step.Found paths.entry)
+        root.now state.new.resolving.keys state.new.visited.keys state.new.frames.items next) }
 {
     let outer = Box::into_inner(alias);
     let _ = state.resolving.pop();
@@ -151,9 +152,10 @@ fn part_link<'a>(
     parts: &SharedParts,
     next: Vec<PathBuilder<'a>>,
 ) -> Result<Option<PathBuilder<'a>>, AllocError>
-    ensures view { IfOk result (λ builder. (root : RootView) → built_paths_of_option root builder
-        ≡ forest_below_link_unless_empty (part_link_head (definition_by_specifier root definition.now)
-        (remaining_parts parts.now)) (built_paths root next.entry.items)) }
+    ensures view { IfOk result (λ builder. (root : RootView)
+        → built_paths_of_option root builder ≡ forest_below_link_unless_empty
+        (part_link_head (definition_by_specifier root definition.now) (remaining_parts parts.now))
+        (built_paths root next.entry.items)) }
     ensures stored { IfOk result (λ builder. (root : RootView)
         → IsStored root definition.now.«module»
         → AreModulesStored root (modules_of_builders next.entry.items)
@@ -172,11 +174,12 @@ pub(crate) fn replace_next_definition<'a>(
 ) -> Result<Step<'a>, SymbolsFault>
     ghost start: { SearchStart }
     requires { IsStateOfNeededModules start root.old state.old (Step.Replace search) }
-    ensures keeps { HasGrownAndFailsOnlyStoringOneOf root.old root.new (IsNeededBySearchFromStart start root.old)
-        result }
-    ensures stores { AreNewlyStoredAmong root.old root.new (IsNeededBySearchFromStart start root.old) }
-    ensures steps { IfOk result (λ next. IsStateStepWithSameOutcomeAndLessWork start root.old state.old
-        (Step.Replace search.entry) root.new state.new next) }
+    ensures keeps { HasGrownAndFailsOnlyStoringOneOf root.old root.new
+        (IsNeededBySearchFromStart start root.old) result }
+    ensures stores { AreNewlyStoredAmong root.old root.new
+        (IsNeededBySearchFromStart start root.old) }
+    ensures steps { IfOk result (λ next. IsStateStepWithSameOutcomeAndLessWork
+        start root.old state.old (Step.Replace search.entry) root.new state.new next) }
 {
     let mut search = search;
     let definition = match search.definitions.get(search.replacements.len()) {

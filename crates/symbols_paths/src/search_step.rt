@@ -59,9 +59,10 @@ pub(crate) struct PartsSearch<'a> {
 }
 
 /// A wait for the paths of a symbol. `Link`: a declaration, for the paths of its target; the
-/// second symbol is that of the link in front of them. `Star`: a named import, for the paths of a candidate. `Alias`: an
-/// alias, for the paths of its symbol under its qualifiers. `Parts`: parts, for the paths in whose
-/// definitions they are resolved. `Replacement`: a definition, for the paths of its part.
+/// second symbol is that of the link in front of them. `Star`: a named import, for the paths of a
+/// candidate. `Alias`: an alias, for the paths of its symbol under its qualifiers. `Parts`: parts,
+/// for the paths in whose definitions they are resolved. `Replacement`: a definition, for the paths
+/// of its part.
 #[derive(Drop)]
 pub(crate) enum Frame<'a> {
     Link(Expansion<'a>, UniqueSymbolId),

@@ -34,7 +34,6 @@ use crate::path_builder::PathBuilder;
 use crate::path_links::{copied_id, copied_parts, unresolved_builder, unresolved_builder_of_kind};
 use crate::re_exported_symbol::resolve_specifier;
 use crate::shared_parts::SharedParts;
-use indexmap::IndexSet;
 use std::alloc::{AllocError, Global};
 use std::borrow::CowStr;
 use symbols_graph::ids::{ModuleId, UniqueSymbolId};
@@ -61,18 +60,17 @@ fn resolve_qualified_name<'a>(
         (IsNeededFrom root.old symbol.module_id (remaining_parts parts.now)) result }
     ensures stores { AreNewlyStoredAmong root.old root.new
         (IsNeededFrom root.old symbol.module_id (remaining_parts parts.now)) }
-    ensures found { IfOk result (λ paths. AreDefinitionPathsWithAnyParts root.old.rules root.old.graph
-        (symbol_of_unique_id root.old symbol) (remaining_parts parts.now)
-        (built_paths root.new paths.items)) }
+    ensures found { IfOk result (λ paths. AreDefinitionPathsWithAnyParts
+        root.old.rules root.old.graph (symbol_of_unique_id root.old symbol)
+        (remaining_parts parts.now) (built_paths root.new paths.items)) }
     ensures listed { IfOk result (λ paths. built_paths root.new paths.items
         ≡ paths_with_parts root.old.rules root.old.graph (symbol_of_unique_id root.old symbol)
         (remaining_parts
         parts.now)) }
-    ensures stored { IfOk result (λ paths. AreModulesStored root.new (modules_of_builders paths.items)) }
+    ensures stored { IfOk result
+        (λ paths. AreModulesStored root.new (modules_of_builders paths.items)) }
 {
-    let mut resolving = IndexSet::new(root.alloc());
-    let mut visited = IndexSet::new(root.alloc());
-    resolve_qualified_name_internal(root, &mut resolving, &mut visited, symbol, parts)
+    resolve_qualified_name_internal(root, symbol, parts)
 }
 
 /// Finds the paths of a symbol of a stored module under the parts after the first.
@@ -88,14 +86,15 @@ fn resolve_after_first_part<'a>(
         (IsNeededFrom root.old symbol.module_id (later_parts (remaining_parts parts.now))) result }
     ensures stores { AreNewlyStoredAmong root.old root.new
         (IsNeededFrom root.old symbol.module_id (later_parts (remaining_parts parts.now))) }
-    ensures found { IfOk result (λ paths. AreDefinitionPathsWithAnyParts root.old.rules root.old.graph
-        (symbol_of_unique_id root.old symbol) (later_parts (remaining_parts parts.now))
-        (built_paths root.new paths.items)) }
+    ensures found { IfOk result (λ paths. AreDefinitionPathsWithAnyParts
+        root.old.rules root.old.graph (symbol_of_unique_id root.old symbol)
+        (later_parts (remaining_parts parts.now)) (built_paths root.new paths.items)) }
     ensures listed { IfOk result (λ paths. built_paths root.new paths.items
         ≡ paths_with_parts root.old.rules root.old.graph (symbol_of_unique_id root.old symbol)
         (later_parts
         (remaining_parts parts.now))) }
-    ensures stored { IfOk result (λ paths. AreModulesStored root.new (modules_of_builders paths.items)) }
+    ensures stored { IfOk result
+        (λ paths. AreModulesStored root.new (modules_of_builders paths.items)) }
 {
     let remaining = parts.after_first_part()?;
     resolve_qualified_name(root, symbol, &remaining)
@@ -143,7 +142,8 @@ fn go_to_id_and_parts_definition_paths<'a>(
         (remaining_parts parts.now))
         (unresolved_id_path (specifier_in root.old module_id) (id_view id.now)
         (remaining_parts parts.now)) (built_paths root.new paths.items)) }
-    ensures stored { IfOk result (λ paths. AreModulesStored root.new (modules_of_builders paths.items)) }
+    ensures stored { IfOk result
+        (λ paths. AreModulesStored root.new (modules_of_builders paths.items)) }
 {
     match root.symbol_id_from_swc(module_id, id) {
         Some(symbol_id) => resolve_qualified_name(
@@ -186,7 +186,8 @@ fn resolve_qualified_export_name<'a>(
         (later_parts (remaining_parts parts.now)) (resolve_specifier root.old.graph
         (specifier_in root.old module_id) specifier_text.now))) (built_paths root.new
         paths.items)) }
-    ensures stored { IfOk result (λ paths. AreModulesStored root.new (modules_of_builders paths.items)) }
+    ensures stored { IfOk result
+        (λ paths. AreModulesStored root.new (modules_of_builders paths.items)) }
 {
     match import_part_target(root, module_id, specifier_text, parts.texts()) {
         Err(fault) => Err(fault),
@@ -211,8 +212,8 @@ fn resolve_import_type<'a>(
         (IsNeededByReference root.old.rules root.old.graph (specifier_in root.old module_id)
         (import_type specifier_text.now [])) }
     ensures found { IfOk result (λ entries. map (resolved_dep_entry_view root.new) entries.items
-        ≡ entries_of_reference_without_symbol root.old.graph (specifier_in root.old module_id) (import_type
-        specifier_text.now [])) }
+        ≡ entries_of_reference_without_symbol root.old.graph
+        (specifier_in root.old module_id) (import_type specifier_text.now [])) }
     ensures stored { IfOk result
         (λ entries. AreModulesStored root.new (modules_of_entries entries.items)) }
 {
@@ -279,10 +280,9 @@ pub(crate) fn resolve_id_dep<'a>(
         (IsNeededFrom root.old module_id (remaining_parts parts.now)) result }
     ensures stores { AreNewlyStoredAmong root.old root.new
         (IsNeededFrom root.old module_id (remaining_parts parts.now)) }
-    ensures answers { IfOk result
-        (λ entries. AreResolvedEntriesOfReference root.old.rules root.old.graph (specifier_in root.old module_id)
-        (qualified_id (id_view id.now) (remaining_parts parts.now))
-        (map (resolved_dep_entry_view root.new) entries.items)) }
+    ensures answers { IfOk result (λ entries. AreResolvedEntriesOfReference root.old.rules
+        root.old.graph (specifier_in root.old module_id) (qualified_id (id_view id.now)
+        (remaining_parts parts.now)) (map (resolved_dep_entry_view root.new) entries.items)) }
     ensures listed { IfOk result (λ entries. map (resolved_dep_entry_view root.new) entries.items
         ≡ dep_entries_of root.old.rules root.old.graph (specifier_in root.old module_id)
         (qualified_id
@@ -310,10 +310,9 @@ pub(crate) fn resolve_import_type_dep<'a>(
     ensures stores { AreNewlyStoredAmong root.old root.new
         (IsNeededByReference root.old.rules root.old.graph (specifier_in root.old module_id)
         (import_type specifier_text.now (remaining_parts parts.now))) }
-    ensures answers { IfOk result
-        (λ entries. AreResolvedEntriesOfReference root.old.rules root.old.graph (specifier_in root.old module_id)
-        (import_type specifier_text.now (remaining_parts parts.now))
-        (map (resolved_dep_entry_view root.new) entries.items)) }
+    ensures answers { IfOk result (λ entries. AreResolvedEntriesOfReference root.old.rules
+        root.old.graph (specifier_in root.old module_id) (import_type specifier_text.now
+        (remaining_parts parts.now)) (map (resolved_dep_entry_view root.new) entries.items)) }
     ensures listed { IfOk result (λ entries. map (resolved_dep_entry_view root.new) entries.items
         ≡ dep_entries_of root.old.rules root.old.graph (specifier_in root.old module_id)
         (import_type

@@ -5,7 +5,7 @@ use Rattle.std.proofs.lemmas.List.{map-append}
 use Rattle.symbols_ast.specs.Graph.{GraphView}
 use Rattle.symbols_answers.specs.Inputs.{InputView, input_of_specifier}
 use Rattle.symbols_queries.specs.declared.inputs.QueryInput.{QueryInput}
-use Rattle.symbols_queries.specs.AnswerViews.{input_view}
+use Rattle.symbols_queries.specs.Queries.{input_view}
 use Rattle.symbols_queries.specs.inner.SpecifierLists.{specifiers_of_keys}
 
 -- the inputs of the remaining specifiers, after those that are listed

@@ -14,17 +14,12 @@ use Rattle.symbols_root.specs.Roots.{RootView, root_with_stored_module, maybe_sp
 use Rattle.symbols_root.specs.TypesChains.{resolved_module_specifier}
 use Rattle.symbols_paths.specs.NeededModules.{IsFaultOfStoringOneOf, AreNewlyStoredAmong}
 use Rattle.symbols_paths.specs.laws.Storing.{newly_stored_among_more, newly_stored_by_two_calls}
-use Rattle.symbols_answers.specs.Questions.{QueryView, inputs_query}
-use Rattle.symbols_answers.specs.Answers.{answer_inputs}
+use Rattle.symbols_answers.specs.Questions.{QueryView, inputs_query, seen_specifiers, inputs_of_query, IsSpecifierLookedUpByQuery}
+use Rattle.symbols_answers.specs.Answers.{answer_inputs, IsAnswerOfInputs, AreRequestedModulesStored}
 use Rattle.symbols_answers.specs.Inputs.{InputView, input_of_specifier}
-use Rattle.symbols_answers.specs.InputLists.{seen_specifiers, inputs_of_query}
-use Rattle.symbols_answers.specs.Meanings.{IsAnswerOfInputs}
-use Rattle.symbols_answers.specs.QueryReach.{IsSpecifierLookedUpByQuery}
-use Rattle.symbols_answers.specs.Stored.{AreRequestedModulesStored}
 use Rattle.symbols_answers.specs.laws.SeenLists.{seen_specifiers_are_looked_up, looked_up_specifiers_are_seen, seen_specifiers_are_distinct}
 use Rattle.symbols_queries.specs.declared.inputs.QueryInput.{QueryInput}
-use Rattle.symbols_queries.specs.AnswerViews.{input_view, inputs_view}
-use Rattle.symbols_queries.specs.QueryFaults.{IsNeededForInputs, CanBeStoredByQuery, IsQueryFault}
+use Rattle.symbols_queries.specs.Queries.{input_view, inputs_view, IsNeededForInputs, CanBeStoredByQuery, IsQueryFault}
 use Rattle.symbols_queries.specs.inner.Given.{IsQueryAnswerReturned}
 
 -- ---- elements of mapped lists

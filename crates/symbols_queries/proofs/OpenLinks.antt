@@ -17,8 +17,7 @@ use Rattle.symbols_queries.specs.declared.paths_by_specifier.OpenLink.{OpenLink}
 use Rattle.symbols_queries.specs.declared.paths_by_specifier.PathLinkBySpecifier.{PathLinkBySpecifier}
 use Rattle.symbols_queries.specs.declared.paths_by_specifier.PathBySpecifier.{PathBySpecifier, the_lemmas}
 use Rattle.symbols_queries.specs.declared.paths_by_specifier.PathBySpecifier.TheVariants as path
-use Rattle.symbols_queries.specs.AnswerViews.{definition_by_specifier_view, unresolved_by_specifier_view}
-use Rattle.symbols_queries.specs.AnswerViews.{decl_with_specifier, path_tree_view, path_forest_view}
+use Rattle.symbols_queries.specs.Queries.{definition_by_specifier_view, unresolved_by_specifier_view, decl_with_specifier, path_tree_view, path_forest_view}
 use Rattle.symbols_queries.proofs.Known.{joined_first, joined_rest, link_next}
 use Rattle.symbols_queries.proofs.NodeTrees.{link_named, definition_named, unresolved_named}
 use Rattle.symbols_paths.proofs.DropOrder.{whole, whole_append, whole_reverse, popped_first}
@@ -157,24 +156,28 @@ converting_begun root named rest all links named_is rest_is links_are known =
     (subst (λ xs. AreConverting root [] all (reverse xs) all) (sym links_are) (record { view = refl; known = known; links_known = tt })))
 
 pub converting_leaf : {root : RootView} {named further : List PathBySpecifier} {all : List DefinitionPathNode} {links : List OpenLink}
-    (rest new : List DefinitionPathNode) (x : DefinitionPathNode) (y : PathBySpecifier) → rest ≡ new ++ x ∷ [] → further ≡ named ++ y ∷ [] → path_tree_view y ≡ path_by_specifier root x
+    (rest new : List DefinitionPathNode) (x : DefinitionPathNode) (y : PathBySpecifier)
+    → rest ≡ new ++ x ∷ [] → further ≡ named ++ y ∷ [] → path_tree_view y ≡ path_by_specifier root x
     → AreConverting root named (reverse rest) links all → AreConverting root further (reverse new) links all
 converting_leaf {root = root} {named = named} {all = all} {links = links} rest new x y rest_is put same is =
     converted_next x y (subst (λ xs. AreConverting root named xs links all) (popped_first rest new x rest_is) is) put same
 
 -- the path taken off the stack is of a stored module
 pub first_known : {root : RootView} {named : List PathBySpecifier} {all : List DefinitionPathNode} {links : List OpenLink}
-    (rest new : List DefinitionPathNode) (x : DefinitionPathNode) → rest ≡ new ++ x ∷ [] → AreConverting root named (reverse rest) links all → AreModulesStored root (modules_of_path x)
+    (rest new : List DefinitionPathNode) (x : DefinitionPathNode)
+    → rest ≡ new ++ x ∷ [] → AreConverting root named (reverse rest) links all → AreModulesStored root (modules_of_path x)
 first_known {root = root} {named = named} {all = all} {links = links} rest new x rest_is is =
     joined_first root modules_of_path (x ∷ reverse new) x (reverse new) refl
     (subst (λ xs. AreConverting root named xs links all) (popped_first rest new x rest_is) is).known
 
 pub converting_link : {root : RootView} {named now : List PathBySpecifier} {all : List DefinitionPathNode}
-    (rest new next : List DefinitionPathNode) (links more : List OpenLink) (x : DefinitionPathNode) (l : DefinitionPathLink) (outer : OpenLink) → rest ≡ new ++ x ∷ [] → x ≡ node.Resolved (resolved.Link l)
+    (rest new next : List DefinitionPathNode) (links more : List OpenLink) (x : DefinitionPathNode) (l : DefinitionPathLink) (outer : OpenLink)
+    → rest ≡ new ++ x ∷ [] → x ≡ node.Resolved (resolved.Link l)
     → next ≡ reverse l.next.items → more ≡ links ++ outer ∷ [] → outer.«module».now ≡ specifier_in root l.«module» → outer.symbol ≡ l.symbol
     → outer.decl ≡ l.symbol_decl → outer.parts ≡ l.parts → outer.before.items ≡ named → outer.rest.items ≡ new → now ≡ []
     → AreConverting root named (reverse rest) (reverse links) all → AreConverting root now (reverse next) (reverse more) all
-converting_link {root = root} {named = named} {all = all} rest new next links more x l outer rest_is x_is next_is more_is module_is symbol_is decl_is parts_is before_is after_is now_is is =
+converting_link {root = root} {named = named} {all = all} rest new next links more x l outer
+    rest_is x_is next_is more_is module_is symbol_is decl_is parts_is before_is after_is now_is is =
     subst (λ ys. AreConverting root ys (reverse next) (reverse more) all) (sym now_is)
     (subst (λ ys. AreConverting root [] ys (reverse more) all) (sym (ap reverse next_is ∙ reverse-reverse l.next.items))
     (subst (λ ls. AreConverting root [] l.next.items ls all) (sym (popped_first more links outer more_is))
@@ -182,13 +185,14 @@ converting_link {root = root} {named = named} {all = all} rest new next links mo
     (subst (λ ys. AreConverting root named ys (reverse links) all) (popped_first rest new x rest_is) is))))
 
 pub converting_close : {root : RootView} {named further : List PathBySpecifier} {all : List DefinitionPathNode} (rest : List DefinitionPathNode)
-    (links new : List OpenLink) (outer : OpenLink) (x : PathLinkBySpecifier) → rest ≡ [] → links ≡ new ++ outer ∷ [] → x.«module».now ≡ outer.«module».now → x.symbol ≡ outer.symbol
+    (links new : List OpenLink) (outer : OpenLink) (x : PathLinkBySpecifier)
+    → rest ≡ [] → links ≡ new ++ outer ∷ [] → x.«module».now ≡ outer.«module».now → x.symbol ≡ outer.symbol
     → x.decl ≡ outer.decl → x.parts ≡ outer.parts → x.next.items ≡ named → further ≡ outer.before.items ++ path.Link x ∷ []
     → AreConverting root named (reverse rest) (reverse links) all → AreConverting root further (reverse outer.rest.items) (reverse new) all
 converting_close {root = root} {named = named} {all = all} rest links new outer x over links_are module_is symbol_is decl_is parts_is
     next_is put is =
-    converted_closed outer x (subst (λ ls. AreConverting root named (reverse rest) ls all) (popped_first links new outer links_are) is) (ap reverse over) module_is
-    symbol_is decl_is parts_is next_is put
+    converted_closed outer x (subst (λ ls. AreConverting root named (reverse rest) ls all) (popped_first links new outer links_are) is)
+    (ap reverse over) module_is symbol_is decl_is parts_is next_is put
 
 pub link_smaller : (rest new next : List DefinitionPathNode) (links more : List OpenLink) (x : DefinitionPathNode) (l : DefinitionPathLink) (outer : OpenLink)
     → rest ≡ new ++ x ∷ [] → x ≡ node.Resolved (resolved.Link l) → next ≡ reverse l.next.items → more ≡ links ++ outer ∷ [] → outer.rest.items ≡ new
@@ -218,9 +222,11 @@ only_one root named [] y x is named_is = ap first_tree (sym (ap path_forest_view
     first_tree : PathForest → PathTree
     first_tree no_trees = path_tree_view y
     first_tree (more_trees t f) = t
-only_one root named (z ∷ []) y x is named_is = absurd (not_two (path_tree_view z) (path_tree_view y) no_trees (path_by_specifier root x) (sym (ap path_forest_view named_is) ∙ is))
+only_one root named (z ∷ []) y x is named_is =
+    absurd (not_two (path_tree_view z) (path_tree_view y) no_trees (path_by_specifier root x) (sym (ap path_forest_view named_is) ∙ is))
 only_one root named (z ∷ u ∷ new) y x is named_is =
-    absurd (not_two (path_tree_view z) (path_tree_view u) (path_forest_view (new ++ y ∷ [])) (path_by_specifier root x) (sym (ap path_forest_view named_is) ∙ is))
+    absurd (not_two (path_tree_view z) (path_tree_view u) (path_forest_view (new ++ y ∷ [])) (path_by_specifier root x)
+    (sym (ap path_forest_view named_is) ∙ is))
 
 pub not_none : (root : RootView) (named : List PathBySpecifier) (x : DefinitionPathNode) → path_forest_view named ≡ paths_by_specifier root (x ∷ [])
     → named ≡ [] → ⊥

@@ -27,7 +27,7 @@ use Rattle.symbols_paths.specs.Views.{fold_link_to_tree}
 use Rattle.symbols_paths.specs.Views.{path_by_specifier, paths_by_specifier, concat_module_ids, fold_node_to_modules, fold_resolved_to_modules}
 use Rattle.symbols_paths.specs.Views.{fold_link_to_modules}
 use Rattle.symbols_paths.specs.Views.{modules_of_path, modules_of_paths, module_of_definition, path_leaf_of_end, module_of_end, AreModulesStored}
-use Rattle.symbols_answers.specs.Stored.{module_of_definition_view, module_of_leaf, modules_of_path_tree, modules_of_path_forest, modules_of_dep_entry}
+use Rattle.symbols_answers.specs.Answers.{module_of_definition_view, module_of_leaf, modules_of_path_tree, modules_of_path_forest, modules_of_dep_entry}
 use Rattle.symbols_queries.proofs.Known.{all_front, all_back}
 use Rattle.symbols_queries.proofs.Storing.{number_stored}
 

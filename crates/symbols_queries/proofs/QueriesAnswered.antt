@@ -44,13 +44,11 @@ use Rattle.symbols_paths.specs.Views.{symbol_by_specifier}
 use Rattle.symbols_answers.specs.Questions.{QuestionView, query_module, query_exports, query_names, query_symbol, query_name, query_deps, query_resolve}
 use Rattle.symbols_answers.specs.Questions.{for_answer, QueryView}
 use Rattle.symbols_answers.specs.Answers.{AnswerView, answer_module, answer_exports, answer_names, answer_symbol, answer_name, answer_deps, answer_resolve}
-use Rattle.symbols_answers.specs.QueryAnswers.{some_if_strict, definition_paths_from, dependencies_answer, some_answer_if_symbol_exists, question_answer}
-use Rattle.symbols_answers.specs.Meanings.{IsAnswerOfPaths, IsAnswerToQuestion}
-use Rattle.symbols_answers.specs.Stored.{modules_of_answer, IsExportsOrPublicNamesQuestion, AreAnswerModulesStored}
+use Rattle.symbols_answers.specs.Answers.{some_if_strict, definition_paths_from, dependencies_answer, some_answer_if_symbol_exists, question_answer}
+use Rattle.symbols_answers.specs.Answers.{IsAnswerOfPaths, IsAnswerToQuestion, modules_of_answer, IsExportsOrPublicNamesQuestion, AreAnswerModulesStored}
 use Rattle.symbols_queries.specs.declared.query.Query.{Query}
-use Rattle.symbols_queries.specs.Queries.{query_view}
+use Rattle.symbols_queries.specs.Queries.{query_view, IsOtherModuleNeededByQuestion}
 use Rattle.symbols_queries.specs.inner.Given.{IsQuestionAnswerReturned}
-use Rattle.symbols_queries.specs.QueryFaults.{IsOtherModuleNeededByQuestion}
 use Rattle.symbols_queries.specs.inner.QueryFaults.{IsOtherModuleForQuestionRefused, IsQuestionFault}
 use Rattle.symbols_queries.proofs.Storing.{number_stored, still_there, reached_stored, reached_there, exports_there}
 

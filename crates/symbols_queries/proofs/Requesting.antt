@@ -17,16 +17,14 @@ use Rattle.symbols_root.specs.laws.Calls.{fails_only_for_out_of_memory}
 use Rattle.symbols_root.specs.laws.Numbers.{id_is_that_of_found_module, no_id_no_module_found}
 use Rattle.symbols_paths.specs.NeededModules.{IsFaultOfStoringOneOf, AreNewlyStoredAmong}
 use Rattle.symbols_paths.specs.laws.Storing.{newly_stored_none, newly_stored_by_two_calls, newly_stored_needed_module}
-use Rattle.symbols_answers.specs.Questions.{QuestionView, QueryView}
-use Rattle.symbols_answers.specs.QueryReach.{IsSpecifierRequestedByQuery}
-use Rattle.symbols_answers.specs.Stored.{AreRequestedModulesStored}
-use Rattle.symbols_answers.specs.InputLists.{append_resolved_specifiers, list_grown_by_walk_from_index, walk_limit, followed_specifiers}
-use Rattle.symbols_answers.specs.InputLists.{append_requested_specifiers, append_resolved_import_type, requested_specifiers}
+use Rattle.symbols_answers.specs.Questions.{QuestionView, QueryView, IsSpecifierRequestedByQuery, append_resolved_specifiers, list_grown_by_walk_from_index}
+use Rattle.symbols_answers.specs.Questions.{walk_limit, followed_specifiers, append_requested_specifiers, append_resolved_import_type, requested_specifiers}
+use Rattle.symbols_answers.specs.Answers.{AreRequestedModulesStored}
 use Rattle.symbols_answers.specs.laws.Walks.{BeginsWith, beginning_agrees_at_index, appended_list_begins_with_old, walk_past_end_adds_nothing}
 use Rattle.symbols_answers.specs.laws.Walks.{walk_takes_step_at_index, step_holds}
 use Rattle.symbols_answers.specs.laws.SeenLists.{specifiers_requested_from_module, append_requested_is_step_that_appends, requested_by_requested_is_requested}
 use Rattle.symbols_answers.specs.laws.SeenLists.{queried_and_import_type_are_requested, requested_specifiers_are_listed}
-use Rattle.symbols_queries.specs.QueryFaults.{IsNeededForInputs}
+use Rattle.symbols_queries.specs.Queries.{IsNeededForInputs}
 use Rattle.symbols_queries.specs.inner.SpecifierLists.{HasGrownAndInputsFailOnlyStoring}
 use Rattle.symbols_queries.proofs.Storing.{still_there, stored_there}
 

@@ -21,22 +21,18 @@ use Rattle.symbols_root.specs.laws.Growing.{has_grown_refl, has_grown_trans, has
 use Rattle.symbols_root.specs.laws.Numbers.{id_is_that_of_found_module, no_id_no_module_found}
 use Rattle.symbols_exports.specs.Chains.{IsReachedByStars}
 use Rattle.symbols_exports.specs.StarStatements.{star_targets_of}
-use Rattle.symbols_answers.specs.Questions.{QueryForm, for_answer, for_inputs, QueryView}
-use Rattle.symbols_answers.specs.Answers.{AnswerView, answer_no_module}
-use Rattle.symbols_answers.specs.QueryAnswers.{question_answer, answer_in_form, query_answer}
-use Rattle.symbols_answers.specs.Meanings.{IsAnswerToQuestion, last_analyzable_module, IsAnswerInForm, IsAnswerToQuery}
-use Rattle.symbols_answers.specs.Stored.{modules_of_answer, AreAnswerModulesStored, AreRequestedModulesStored, AreModulesStoredInForm, AreQueryModulesStored}
-use Rattle.symbols_answers.specs.QueryReach.{IsSpecifierRequestedByQuery}
+use Rattle.symbols_answers.specs.Questions.{QueryForm, for_answer, for_inputs, QueryView, IsSpecifierRequestedByQuery}
+use Rattle.symbols_answers.specs.Answers.{AnswerView, answer_no_module, question_answer, answer_in_form, query_answer, IsAnswerToQuestion}
+use Rattle.symbols_answers.specs.Answers.{last_analyzable_module, IsAnswerInForm, IsAnswerToQuery, modules_of_answer, AreAnswerModulesStored}
+use Rattle.symbols_answers.specs.Answers.{AreRequestedModulesStored, AreModulesStoredInForm, AreQueryModulesStored}
 use Rattle.symbols_paths.specs.NeededModules.{AreNewlyStoredAmong}
 use Rattle.symbols_paths.specs.laws.Storing.{newly_stored_none, newly_stored_among_more, newly_stored_by_two_calls, newly_stored_needed_module}
-use Rattle.symbols_queries.specs.declared.answer.Answer.{Answer}
+use Rattle.symbols_queries.specs.declared.query.Answer.{Answer}
 use Rattle.symbols_queries.specs.declared.query.Query.{Query}
-use Rattle.symbols_queries.specs.Queries.{query_view}
-use Rattle.symbols_queries.specs.AnswerViews.{answer_view}
+use Rattle.symbols_queries.specs.Queries.{query_view, answer_view, IsOtherModuleNeededByQuestion, IsNeededInForm, IsOtherModuleNeededByQuery}
+use Rattle.symbols_queries.specs.Queries.{CanBeStoredByQuery, CanBeStoredByQueries, IsQueryFault, HasAnswerWithModulesStored, IsOutOfMemoryAfterAnswer}
+use Rattle.symbols_queries.specs.Queries.{IsQueryListFault}
 use Rattle.symbols_queries.specs.inner.Given.{IsQuestionAnswerReturned, IsQueryAnswerReturned}
-use Rattle.symbols_queries.specs.QueryFaults.{IsOtherModuleNeededByQuestion, IsNeededInForm, IsOtherModuleNeededByQuery, CanBeStoredByQuery}
-use Rattle.symbols_queries.specs.QueryFaults.{CanBeStoredByQueries, IsQueryFault}
-use Rattle.symbols_queries.specs.QueryFaults.{HasAnswerWithModulesStored, IsOutOfMemoryAfterAnswer, IsQueryListFault}
 use Rattle.symbols_queries.specs.inner.QueryFaults.{IsQuestionFault}
 use Rattle.symbols_queries.proofs.Storing.{all_still_there, still_there}
 
@@ -83,12 +79,14 @@ answer_by rules graph query found form occurs =
     ∙ ap (λ it. option_map_or (λ (m : List ℕ). question_answer rules graph m query.question) it (Some answer_no_module)) occurs
 
 -- the answer on the module is the answer to the query
-answer_is : (old mid : RootView) (query : QueryView) (specifier : List ℕ) → query.form ≡ for_answer → HasGrown old mid → resolved_module_specifier old.graph query.specifier
+answer_is : (old mid : RootView) (query : QueryView) (specifier : List ℕ)
+    → query.form ≡ for_answer → HasGrown old mid → resolved_module_specifier old.graph query.specifier
     ≡ Some specifier → query_answer old.rules old.graph query ≡ question_answer mid.rules mid.graph specifier query.question
 answer_is old mid query specifier form grown occurs =
     answer_by old.rules old.graph query (Some specifier) form occurs ∙ (λ i. question_answer (sym grown.rules i) (sym grown.graph i) specifier query.question)
 
-pub query_given : (old mid new : RootView) (module_id : ModuleId) (query : QueryView) (given : AnswerView) → query.form ≡ for_answer → IsQueried old mid module_id query
+pub query_given : (old mid new : RootView) (module_id : ModuleId) (query : QueryView) (given : AnswerView)
+    → query.form ≡ for_answer → IsQueried old mid module_id query
     → HasGrown mid new → IsQuestionAnswerReturned mid new (specifier_in mid module_id) query.question given → IsQueryAnswerReturned old new query given
 query_given old mid new module_id query given form queried grown is =
     record {
@@ -156,7 +154,8 @@ stores_for_query old mid new module_id query form queried first then =
 
 -- ---- why a query fails
 
-pub query_refused : (old mid new : RootView) (module_id : ModuleId) (query : QueryView) (f : SymbolsFault) → query.form ≡ for_answer → IsQueried old mid module_id query
+pub query_refused : (old mid new : RootView) (module_id : ModuleId) (query : QueryView) (f : SymbolsFault)
+    → query.form ≡ for_answer → IsQueried old mid module_id query
     → HasGrown mid new → AreNewlyStoredAmong mid new (IsOtherModuleNeededByQuestion mid.rules mid.graph (specifier_in mid module_id) query.question)
     → IsQuestionFault mid new (specifier_in mid module_id) query.question f → IsQueryFault old new query f
 query_refused old mid new module_id query f form queried grown only (inl is) = inl (record {

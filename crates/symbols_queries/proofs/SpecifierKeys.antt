@@ -9,7 +9,7 @@ use Rattle.std.proofs.lemmas.List.{map-append}
 use Rattle.std.proofs.lemmas.Option.{slice_get-map}
 use Rattle.indexmap.specs.IndexSet.{insert_key}
 use Rattle.symbols_root.specs.Specifiers.{contains_specifier}
-use Rattle.symbols_answers.specs.InputLists.{append_specifier_if_absent}
+use Rattle.symbols_answers.specs.Questions.{append_specifier_if_absent}
 use Rattle.symbols_queries.specs.inner.SpecifierLists.{specifiers_of_keys}
 
 -- a specifier after the first

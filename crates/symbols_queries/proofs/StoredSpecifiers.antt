@@ -20,8 +20,8 @@ use Rattle.symbols_root.specs.Roots.{RootView, specifier_in, IsTableOfStoredModu
 use Rattle.symbols_root.specs.laws.StoredTables.{stored_table_has_module_changes, stored_table_has_module_symbols}
 use Rattle.symbols_exports.specs.StarStatements.{star_specifiers}
 use Rattle.symbols_paths.specs.DeclTargets.{declarations_of}
-use Rattle.symbols_answers.specs.InputLists.{append_resolved_specifiers, declarations_in_module, import_specifiers_among, import_specifiers}
-use Rattle.symbols_answers.specs.InputLists.{star_and_import_specifiers}
+use Rattle.symbols_answers.specs.Questions.{append_resolved_specifiers, declarations_in_module, import_specifiers_among, import_specifiers}
+use Rattle.symbols_answers.specs.Questions.{star_and_import_specifiers}
 use Rattle.symbols_queries.proofs.TargetLists.{targets_joined}
 
 -- values that are there or not alike
@@ -74,7 +74,8 @@ module _ (root : RootView) (module_id : ModuleId) (table : SymbolTable) (stored 
       (λ k within. each k (omega (arith, within, counted, length-map table.symbols symbol_decls)))
     where
       each : (k : ℕ) → k < length table.symbols
-          → get_or (map symbol_decls table.symbols) k [] ≡ declarations_of root.graph (record { specifier = specifier_in root module_id; number = record { 0 = k } })
+          → get_or (map symbol_decls table.symbols) k []
+          ≡ declarations_of root.graph (record { specifier = specifier_in root module_id; number = record { 0 = k } })
       each k within = elim (slice_get_cases table.symbols k).1 [
         | inl found ↦ get_or-map symbol_decls table.symbols k found.0 [] within ∙ (ap symbol_decls found.3
             ∙ ap (λ (o : Option SymbolView). option_map_or (λ (s : SymbolView). s.decls) o []) (sym (ap (option_map symbol_view) found.2) ∙ symbols_there k))

@@ -21,9 +21,8 @@ use Rattle.symbols_exports.specs.SharedNameLists.{shared_name_view_of_resolved, 
 use Rattle.symbols_exports.specs.CollectedNames.{ResolvedExportView}
 use Rattle.symbols_exports.specs.ExportViews.{export_by_specifier, star_statement_by_specifier, AreReferrersOfStarsStored, AreModulesOfExportStored}
 use Rattle.symbols_exports.specs.ExportViews.{AreModulesOfExportsStored}
-use Rattle.symbols_answers.specs.Answers.{answer_exports}
-use Rattle.symbols_answers.specs.QueryAnswers.{some_if_strict}
-use Rattle.symbols_answers.specs.Stored.{star_referrer, modules_of_export, modules_of_shared_name, modules_of_shared_names, modules_of_answer}
+use Rattle.symbols_answers.specs.Answers.{answer_exports, some_if_strict, star_referrer, modules_of_export, modules_of_shared_name, modules_of_shared_names}
+use Rattle.symbols_answers.specs.Answers.{modules_of_answer}
 
 -- the module of a stored module's number is stored
 pub number_stored : (root : RootView) (id : ModuleId) → id.0 < length root.stored → Contains root.stored (specifier_in root id)

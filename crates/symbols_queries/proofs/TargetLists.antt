@@ -14,7 +14,7 @@ use Rattle.symbols_table.specs.declared.decl.symbol_decl.SymbolDeclKind.{SymbolD
 use Rattle.symbols_table.specs.declared.decl.symbol_decl.SymbolDecl.{SymbolDecl}
 use Rattle.symbols_table.specs.DeclViews.{FileDepView, Declaration, decl_kind_view, decl_view, decl_kind_dep}
 use Rattle.symbols_table.specs.Symbols.{symbol_decls}
-use Rattle.symbols_answers.specs.InputLists.{append_optional_specifier_if_absent, append_resolved_specifiers, import_specifiers_among}
+use Rattle.symbols_answers.specs.Questions.{append_optional_specifier_if_absent, append_resolved_specifiers, import_specifiers_among}
 
 module _ (graph : GraphView) (referrer : List ℕ) where
   pub targets_joined : (a b xs : List (List ℕ)) → append_resolved_specifiers graph referrer (append_resolved_specifiers graph referrer xs a) b

@@ -3,8 +3,8 @@ use Rattle.std.proofs.Common.{◌≡◌, ℕ, zero, suc, ◌+◌, ◌≤◌, ◌
 use Rattle.std.proofs.lemmas.Option.{slice_get_within}
 use Rattle.std.specs.Option.{option_and_then}
 use Rattle.symbols_ast.specs.Graph.{GraphView, ModuleView, module_after_redirect, content_types_dependency}
-use Rattle.symbols_answers.specs.InputLists.{append_specifier_if_absent, append_optional_specifier_if_absent, list_grown_by_walk_from_index, walk_limit}
-use Rattle.symbols_answers.specs.InputLists.{append_types_dependency}
+use Rattle.symbols_answers.specs.Questions.{append_specifier_if_absent, append_optional_specifier_if_absent, list_grown_by_walk_from_index, walk_limit}
+use Rattle.symbols_answers.specs.Questions.{append_types_dependency}
 use Rattle.symbols_answers.specs.laws.Walks.{walk_past_end_adds_nothing, walk_takes_step_at_index}
 
 -- the specifiers before the index have added what types dependencies lead to

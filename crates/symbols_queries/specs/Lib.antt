@@ -1,4 +1,2 @@
 pub mod Queries
-pub mod AnswerViews
-pub mod QueryFaults
 pub mod inner

@@ -11,29 +11,22 @@ ghost use Rattle.symbols_root.specs.Growing.{HasGrown};
 ghost use Rattle.symbols_root.specs.Calls.{IsStored, HasGrownAndFailsOnlyFor};
 ghost use Rattle.symbols_exports.specs.ExportAnswers.{AreExportListsCorrectAndUnique};
 ghost use Rattle.symbols_paths.specs.NeededModules.{AreNewlyStoredAmong};
-ghost use Rattle.symbols_answers.specs.Questions.{query_exports, query_names, query_name};
-ghost use Rattle.symbols_answers.specs.Questions.{query_deps};
-ghost use Rattle.symbols_answers.specs.Questions.{query_paths, query_definitions, query_leaves};
-ghost use Rattle.symbols_answers.specs.Questions.{query_resolve, inputs_query};
-ghost use Rattle.symbols_answers.specs.QueryAnswers.{query_answer};
-ghost use Rattle.symbols_answers.specs.Meanings.{IsAnswerToQuery};
-ghost use Rattle.symbols_answers.specs.Stored.{AreQueryModulesStored};
-ghost use Rattle.symbols_queries.specs.Queries.{query_view};
-ghost use Rattle.symbols_queries.specs.AnswerViews.{answer_view, inputs_view};
+ghost use Rattle.symbols_answers.specs.Questions.{query_exports, query_names, query_name, query_deps, query_paths};
+ghost use Rattle.symbols_answers.specs.Questions.{query_definitions, query_leaves, query_resolve, inputs_query};
+ghost use Rattle.symbols_answers.specs.Answers.{query_answer, IsAnswerToQuery, AreQueryModulesStored};
+ghost use Rattle.symbols_queries.specs.Queries.{query_view, answer_view, inputs_view, IsQueryFault, IsQueryListFault};
+ghost use Rattle.symbols_queries.specs.Queries.{IsOtherModuleNeededByQuestion, CanBeStoredByQuery};
+ghost use Rattle.symbols_queries.specs.Queries.{CanBeStoredByQueries};
 ghost use Rattle.symbols_queries.specs.inner.Given.{IsQuestionAnswerReturned};
-ghost use Rattle.symbols_queries.specs.QueryFaults.{IsQueryFault, IsQueryListFault};
-ghost use Rattle.symbols_queries.specs.QueryFaults.{IsOtherModuleNeededByQuestion, CanBeStoredByQuery};
-ghost use Rattle.symbols_queries.specs.QueryFaults.{CanBeStoredByQueries};
 ghost use Rattle.symbols_queries.specs.inner.QueryFaults.{IsQuestionFault, HasGrownAndQuestionFailsOnlyFor};
 
-use crate::answer::Answer;
 use crate::decl_deps::symbol_deps;
 use crate::exports_by_specifier::exports_by_specifier;
 use crate::inputs::{QueryInput, inputs};
 use crate::paths_by_specifier::{
     definitions_by_specifier, entries_by_specifier, path_ends_by_specifier, paths_by_specifier,
 };
-use crate::query::Query;
+use crate::query::{Answer, Query};
 use symbols_deps::laws::dependencies_are_listed;
 use symbols_exports::laws::exports_are_listed;
 use symbols_exports::{exports, public_names};
@@ -51,8 +44,8 @@ fn exports_answer<'a>(
     requires { IsStored root.old module_id }
     ensures keeps { HasGrownAndFailsOnlyFor root.old root.new
         (IsQuestionFault root.old root.new (specifier_in root.old module_id) query_exports) result }
-    ensures stores { AreNewlyStoredAmong root.old root.new (IsOtherModuleNeededByQuestion root.old.rules root.old.graph
-        (specifier_in root.old module_id) query_exports) }
+    ensures stores { AreNewlyStoredAmong root.old root.new (IsOtherModuleNeededByQuestion
+        root.old.rules root.old.graph (specifier_in root.old module_id) query_exports) }
     ensures given { IfOk result (λ answer. IsQuestionAnswerReturned root.old root.new
         (specifier_in root.old module_id) query_exports (answer_view answer)) }
 {
@@ -70,8 +63,8 @@ fn names_answer<'a>(
     requires { IsStored root.old module_id }
     ensures keeps { HasGrownAndFailsOnlyFor root.old root.new
         (IsQuestionFault root.old root.new (specifier_in root.old module_id) query_names) result }
-    ensures stores { AreNewlyStoredAmong root.old root.new (IsOtherModuleNeededByQuestion root.old.rules root.old.graph
-        (specifier_in root.old module_id) query_names) }
+    ensures stores { AreNewlyStoredAmong root.old root.new (IsOtherModuleNeededByQuestion
+        root.old.rules root.old.graph (specifier_in root.old module_id) query_names) }
     ensures given { IfOk result (λ answer. IsQuestionAnswerReturned root.old root.new
         (specifier_in root.old module_id) query_names (answer_view answer)) }
 {
@@ -134,10 +127,10 @@ fn paths_answer<'a>(
     symbol: SymbolId,
 ) -> Result<Answer<'a>, SymbolsFault>
     requires { IsStored root.old module_id }
-    ensures keeps { HasGrownAndQuestionFailsOnlyFor root.old root.new (IsQuestionFault root.old root.new
-        (specifier_in root.old module_id) (query_paths symbol)) result }
-    ensures stores { AreNewlyStoredAmong root.old root.new (IsOtherModuleNeededByQuestion root.old.rules root.old.graph
-        (specifier_in root.old module_id) (query_paths symbol)) }
+    ensures keeps { HasGrownAndQuestionFailsOnlyFor root.old root.new (IsQuestionFault
+        root.old root.new (specifier_in root.old module_id) (query_paths symbol)) result }
+    ensures stores { AreNewlyStoredAmong root.old root.new (IsOtherModuleNeededByQuestion
+        root.old.rules root.old.graph (specifier_in root.old module_id) (query_paths symbol)) }
     ensures given { IfOk result (λ answer. IsQuestionAnswerReturned root.old root.new
         (specifier_in root.old module_id) (query_paths symbol) (answer_view answer)) }
 {
@@ -154,9 +147,10 @@ fn definitions_answer<'a>(
     symbol: SymbolId,
 ) -> Result<Answer<'a>, SymbolsFault>
     requires { IsStored root.old module_id }
-    ensures keeps { HasGrownAndQuestionFailsOnlyFor root.old root.new (IsQuestionFault root.old root.new
-        (specifier_in root.old module_id) (query_definitions symbol)) result }
-    ensures stores { AreNewlyStoredAmong root.old root.new (IsOtherModuleNeededByQuestion root.old.rules root.old.graph
+    ensures keeps { HasGrownAndQuestionFailsOnlyFor root.old root.new (IsQuestionFault
+        root.old root.new (specifier_in root.old module_id) (query_definitions symbol)) result }
+    ensures stores { AreNewlyStoredAmong root.old root.new
+        (IsOtherModuleNeededByQuestion root.old.rules root.old.graph
         (specifier_in root.old module_id) (query_definitions symbol)) }
     ensures given { IfOk result (λ answer. IsQuestionAnswerReturned root.old root.new
         (specifier_in root.old module_id) (query_definitions symbol) (answer_view answer)) }
@@ -177,10 +171,10 @@ fn leaves_answer<'a>(
     symbol: SymbolId,
 ) -> Result<Answer<'a>, SymbolsFault>
     requires { IsStored root.old module_id }
-    ensures keeps { HasGrownAndQuestionFailsOnlyFor root.old root.new (IsQuestionFault root.old root.new
-        (specifier_in root.old module_id) (query_leaves symbol)) result }
-    ensures stores { AreNewlyStoredAmong root.old root.new (IsOtherModuleNeededByQuestion root.old.rules root.old.graph
-        (specifier_in root.old module_id) (query_leaves symbol)) }
+    ensures keeps { HasGrownAndQuestionFailsOnlyFor root.old root.new (IsQuestionFault
+        root.old root.new (specifier_in root.old module_id) (query_leaves symbol)) result }
+    ensures stores { AreNewlyStoredAmong root.old root.new (IsOtherModuleNeededByQuestion
+        root.old.rules root.old.graph (specifier_in root.old module_id) (query_leaves symbol)) }
     ensures given { IfOk result (λ answer. IsQuestionAnswerReturned root.old root.new
         (specifier_in root.old module_id) (query_leaves symbol) (answer_view answer)) }
 {
@@ -200,7 +194,8 @@ fn entries_answer<'a>(
     ensures keeps { HasGrownAndFailsOnlyFor root.old root.new
         (IsQuestionFault root.old root.new (specifier_in root.old module_id)
         (query_resolve (reference_view dep.now))) result }
-    ensures stores { AreNewlyStoredAmong root.old root.new (IsOtherModuleNeededByQuestion root.old.rules root.old.graph
+    ensures stores { AreNewlyStoredAmong root.old root.new
+        (IsOtherModuleNeededByQuestion root.old.rules root.old.graph
         (specifier_in root.old module_id) (query_resolve (reference_view dep.now))) }
     ensures given { IfOk result (λ answer. IsQuestionAnswerReturned root.old root.new
         (specifier_in root.old module_id) (query_resolve (reference_view dep.now))
@@ -223,7 +218,8 @@ fn answer_on<'a>(
     ensures keeps { HasGrownAndQuestionFailsOnlyFor root.old root.new
         (IsQuestionFault root.old root.new (specifier_in root.old module_id)
         (query_view query.now).question) result }
-    ensures stores { AreNewlyStoredAmong root.old root.new (IsOtherModuleNeededByQuestion root.old.rules root.old.graph
+    ensures stores { AreNewlyStoredAmong root.old root.new
+        (IsOtherModuleNeededByQuestion root.old.rules root.old.graph
         (specifier_in root.old module_id) (query_view query.now).question) }
     ensures given { IfOk result (λ answer. IsQuestionAnswerReturned root.old root.new
         (specifier_in root.old module_id) (query_view query.now).question (answer_view answer)) }
@@ -318,7 +314,8 @@ impl<'a> AnswerQueries<'a> for RootSymbol<'a> {
             (λ answers. AllZip (λ query answer. AreQueryModulesStored self.new (query_view query)
             (answer_view answer)) queries.now answers.items) }
         ensures listed { (start : List ℕ) → AreExportListsCorrectAndUnique self.old.graph start }
-        ensures faults { IfErr result (IsQueryListFault self.old self.new (map query_view queries.now)) }
+        ensures faults { IfErr result
+            (IsQueryListFault self.old self.new (map query_view queries.now)) }
         ensures stores { AreNewlyStoredAmong self.old self.new
             (CanBeStoredByQueries self.old.rules self.old.graph (map query_view queries.now)) }
         ensures enough { self.old.limits ≡ widest_limits
@@ -345,9 +342,10 @@ impl<'a> AnswerQueries<'a> for RootSymbol<'a> {
             (inputs_query (query_view query.now)) (inputs_view inputs)) }
         ensures faults { IfErr result
             (IsQueryFault self.old self.new (inputs_query (query_view query.now))) }
-        ensures stores { AreNewlyStoredAmong self.old self.new
-            (CanBeStoredByQuery self.old.rules self.old.graph (inputs_query (query_view query.now))) }
-        ensures enough { self.old.limits ≡ widest_limits → IfErr result (λ fault. fault ≡ OutOfMemory) }
+        ensures stores { AreNewlyStoredAmong self.old self.new (CanBeStoredByQuery
+            self.old.rules self.old.graph (inputs_query (query_view query.now))) }
+        ensures enough { self.old.limits ≡ widest_limits
+            → IfErr result (λ fault. fault ≡ OutOfMemory) }
     {
         let resolved = self.module_from_specifier(query.specifier());
         match resolved {

@@ -5,7 +5,7 @@ ghost use Rattle.symbols_nodes.specs.References.{namespaced_reference_view};
 ghost use Rattle.symbols_table.specs.DeclViews.{decl_view};
 ghost use Rattle.symbols_deps.specs.DeclDependencies.{decl_dependencies};
 ghost use Rattle.symbols_table.specs.Symbols.{symbol_decls};
-ghost use Rattle.symbols_queries.specs.AnswerViews.{deps_view};
+ghost use Rattle.symbols_queries.specs.Queries.{deps_view};
 
 use std::alloc::{AllocError, Global};
 use symbols_deps::{ReferenceNamespace, ResolveDeps, ResolveDepsMode, SymbolNodeDep};

@@ -12,9 +12,8 @@ ghost use Rattle.symbols_exports.specs.ExportViews.{star_statement_by_specifier}
 ghost use Rattle.symbols_exports.specs.ExportViews.{export_by_specifier};
 ghost use Rattle.symbols_exports.specs.ExportViews.{AreReferrersOfStarsStored, AreModulesOfExportStored};
 ghost use Rattle.symbols_exports.specs.ExportViews.{AreModulesOfExportsStored};
-ghost use Rattle.symbols_answers.specs.QueryAnswers.{some_if_strict};
-ghost use Rattle.symbols_queries.specs.AnswerViews.{star_statement_by_specifier_view, export_view};
-ghost use Rattle.symbols_queries.specs.AnswerViews.{shared_names_view};
+ghost use Rattle.symbols_answers.specs.Answers.{some_if_strict};
+ghost use Rattle.symbols_queries.specs.Queries.{star_statement_by_specifier_view, export_view, shared_names_view};
 
 use crate::shared_name_by_specifier::{SharedNameBySpecifier, shared_names_by_rules};
 use indexmap::IndexMap;
@@ -181,8 +180,10 @@ pub(crate) fn exports_by_specifier<'a>(
     root: &RootSymbol<'a>,
     exports: ModuleExports<'a>,
 ) -> Result<ExportsBySpecifier<'a>, AllocError>
-    requires names { AreModulesOfExportsStored root.now (resolved_export_views exports.resolved.entries) }
-    requires shared { AreExporterModulesStored root.now (resolved_shared_name_views exports.shared.items) }
+    requires names { AreModulesOfExportsStored root.now
+        (resolved_export_views exports.resolved.entries) }
+    requires shared { AreExporterModulesStored root.now
+        (resolved_shared_name_views exports.shared.items) }
     requires statements { AreReferrersOfStarsStored root.now
         (map unresolved_star_view exports.unresolved_specifiers.items) }
     ensures names { IfOk result (λ named. map export_view named.exports.items
@@ -191,9 +192,10 @@ pub(crate) fn exports_by_specifier<'a>(
     ensures shared { IfOk result (λ named. option_map shared_names_view named.shared
         ≡ some_if_strict root.now.rules (map (shared_name_view_of_resolved root.now)
         (resolved_shared_name_views exports.entry.shared.items))) }
-    ensures statements { IfOk result (λ named. map star_statement_by_specifier_view named.unresolved.items
-        ≡ map (star_statement_by_specifier root.now) (map unresolved_star_view
-        exports.entry.unresolved_specifiers.items)) }
+    ensures statements { IfOk result
+        (λ named. map star_statement_by_specifier_view named.unresolved.items
+        ≡ map (star_statement_by_specifier root.now)
+        (map unresolved_star_view exports.entry.unresolved_specifiers.items)) }
 {
     let unresolved = unresolved_by_specifier(alloc, root, &exports.unresolved_specifiers)?;
     let shared = shared_names_by_rules(alloc, root, exports.shared)?;

@@ -7,16 +7,15 @@ ghost use Rattle.symbols_table.specs.Symbols.{symbol_decls};
 ghost use Rattle.symbols_root.specs.Calls.{IsStored};
 ghost use Rattle.symbols_root.specs.Roots.{maybe_specifier, specifier_in};
 ghost use Rattle.symbols_root.specs.TypesChains.{resolved_module_specifier};
-ghost use Rattle.symbols_answers.specs.InputLists.{append_resolved_specifiers, list_grown_by_walk_from_index};
-ghost use Rattle.symbols_answers.specs.InputLists.{walk_limit, import_specifiers_among, followed_specifiers};
-ghost use Rattle.symbols_answers.specs.InputLists.{import_type_specifier_of_question, append_resolved_import_type};
-ghost use Rattle.symbols_answers.specs.InputLists.{append_requested_specifiers, requested_specifiers};
-ghost use Rattle.symbols_answers.specs.InputLists.{append_types_dependency, seen_specifiers, inputs_of_query};
+ghost use Rattle.symbols_answers.specs.Questions.{append_resolved_specifiers, list_grown_by_walk_from_index};
+ghost use Rattle.symbols_answers.specs.Questions.{walk_limit, import_specifiers_among, followed_specifiers};
+ghost use Rattle.symbols_answers.specs.Questions.{import_type_specifier_of_question, append_resolved_import_type};
+ghost use Rattle.symbols_answers.specs.Questions.{append_requested_specifiers, requested_specifiers};
+ghost use Rattle.symbols_answers.specs.Questions.{append_types_dependency, seen_specifiers, inputs_of_query};
 ghost use Rattle.symbols_answers.specs.Inputs.{found_under_specifier, input_of_specifier};
-ghost use Rattle.symbols_answers.specs.Stored.{AreRequestedModulesStored};
+ghost use Rattle.symbols_answers.specs.Answers.{AreRequestedModulesStored};
 ghost use Rattle.symbols_ast.specs.Graph.{module_after_redirect};
-ghost use Rattle.symbols_queries.specs.Queries.{query_view};
-ghost use Rattle.symbols_queries.specs.AnswerViews.{found_view, input_view};
+ghost use Rattle.symbols_queries.specs.Queries.{query_view, found_view, input_view};
 ghost use Rattle.symbols_queries.specs.inner.SpecifierLists.{HasGrownAndInputsFailOnlyStoring};
 
 use crate::query::Query;
@@ -170,7 +169,8 @@ fn add_requests<'a>(
 
 /// Returns the specifier of the import type that a query resolves, if it is on one.
 fn import_type_specifier<'r>(query: &'r Query<'_>) -> Option<&'r str>
-    ensures { option_copied result ≡ import_type_specifier_of_question (query_view query.now).question }
+    ensures { option_copied result
+        ≡ import_type_specifier_of_question (query_view query.now).question }
 {
     match query {
         Query::Resolve(_, SymbolNodeDep::ImportType(specifier_text, _)) => Some(specifier_text),
@@ -189,7 +189,8 @@ fn add_import_type_target<'a>(
     requires queried { option_map (maybe_specifier root.now) module_id
         ≡ option_map (λ s. Some s)
         (resolved_module_specifier root.now.graph (query_view query.now).specifier) }
-    ensures { OnOk result (list.new ≡ append_resolved_import_type root.now.graph (query_view query.now) list.old) }
+    ensures { OnOk result (list.new
+        ≡ append_resolved_import_type root.now.graph (query_view query.now) list.old) }
 {
     let Some(module_id) = module_id else {
         return Ok(());
@@ -212,8 +213,8 @@ fn requested_specifiers<'q, 'a>(
     module_id: Option<ModuleId>,
     query: &'q Query<'_>,
 ) -> Result<SpecifierList<'q, 'a>, SymbolsFault>
-    requires { option_map (maybe_specifier root.old) module_id
-        ≡ option_map (λ s. Some s) (resolved_module_specifier root.old.graph (query_view query.now).specifier) }
+    requires { option_map (maybe_specifier root.old) module_id ≡ option_map
+        (λ s. Some s) (resolved_module_specifier root.old.graph (query_view query.now).specifier) }
     ensures keeps { HasGrownAndInputsFailOnlyStoring root.old root.new (query_view query.now)
         result }
     ensures listed { IfOk result (λ list. list ≡ requested_specifiers root.old.graph
@@ -299,10 +300,10 @@ fn inputs_from_requested<'a>(
     requested: SpecifierList<'_, 'a>,
 ) -> Result<Vec<QueryInput<'a>>, AllocError>
     ensures listed { IfOk result (λ inputs. map input_view inputs.items
-        ≡ map (input_of_specifier graph.now)
-        (list_grown_by_walk_from_index (append_types_dependency graph.now) walk_limit 0 requested.entry)) }
-    ensures few { OnOk result (length
-        (list_grown_by_walk_from_index (append_types_dependency graph.now) walk_limit 0 requested.entry) ≤ 2 ^ 63) }
+        ≡ map (input_of_specifier graph.now) (list_grown_by_walk_from_index
+        (append_types_dependency graph.now) walk_limit 0 requested.entry)) }
+    ensures few { OnOk result (length (list_grown_by_walk_from_index
+        (append_types_dependency graph.now) walk_limit 0 requested.entry) ≤ 2 ^ 63) }
 {
     let mut list = requested;
     add_types_dependencies(graph, &mut list)?;
@@ -316,8 +317,8 @@ pub(crate) fn inputs<'a>(
     module_id: Option<ModuleId>,
     query: &Query<'_>,
 ) -> Result<Vec<QueryInput<'a>>, SymbolsFault>
-    requires { option_map (maybe_specifier root.old) module_id
-        ≡ option_map (λ s. Some s) (resolved_module_specifier root.old.graph (query_view query.now).specifier) }
+    requires { option_map (maybe_specifier root.old) module_id ≡ option_map
+        (λ s. Some s) (resolved_module_specifier root.old.graph (query_view query.now).specifier) }
     ensures keeps { HasGrownAndInputsFailOnlyStoring root.old root.new (query_view query.now)
         result }
     ensures listed { IfOk result (λ inputs. map input_view inputs.items ≡ inputs_of_query

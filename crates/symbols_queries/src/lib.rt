@@ -1,7 +1,6 @@
 //! Queries on the modules of a graph, and their answers.
 #![tactic(auto)]
 
-mod answer;
 mod answer_queries;
 mod decl_deps;
 mod exports_by_specifier;
@@ -11,7 +10,6 @@ mod query;
 mod shared_name_by_specifier;
 mod specifier_list;
 
-pub use answer::Answer;
 pub use answer_queries::AnswerQueries;
 pub use decl_deps::DeclDeps;
 pub use exports_by_specifier::{ExportBySpecifier, ExportsBySpecifier, StarStatementBySpecifier};
@@ -20,5 +18,5 @@ pub use paths_by_specifier::{
     DefinitionBySpecifier, DepEntryBySpecifier, PathBySpecifier, PathEndBySpecifier,
     PathLinkBySpecifier, UnresolvedBySpecifier,
 };
-pub use query::Query;
+pub use query::{Answer, Query};
 pub use shared_name_by_specifier::{ExporterBySpecifier, SharedNameBySpecifier};

@@ -10,10 +10,8 @@ ghost use Rattle.symbols_paths.specs.Views.{modules_of_paths, module_of_definiti
 ghost use Rattle.symbols_paths.specs.Views.{AreModulesStored};
 ghost use Rattle.symbols_paths.specs.DepAnswers.{resolved_dep_entry_view, modules_of_entry};
 ghost use Rattle.symbols_paths.specs.DepAnswers.{modules_of_entries};
-ghost use Rattle.symbols_queries.specs.AnswerViews.{definition_by_specifier_view};
-ghost use Rattle.symbols_queries.specs.AnswerViews.{unresolved_by_specifier_view, path_tree_view};
-ghost use Rattle.symbols_queries.specs.AnswerViews.{path_forest_view, path_end_view};
-ghost use Rattle.symbols_queries.specs.AnswerViews.{dep_entry_view};
+ghost use Rattle.symbols_queries.specs.Queries.{definition_by_specifier_view, unresolved_by_specifier_view};
+ghost use Rattle.symbols_queries.specs.Queries.{path_tree_view, path_forest_view, path_end_view, dep_entry_view};
 
 use std::alloc::{AllocError, Global};
 use std::mem;

@@ -10,9 +10,8 @@ ghost use Rattle.symbols_exports.specs.CollectedNames.{resolved_shared_name_view
 ghost use Rattle.symbols_exports.specs.CollectedNames.{resolved_shared_name_views};
 ghost use Rattle.symbols_exports.specs.ExportViews.{export_by_specifier, AreReferrersOfStarsStored};
 ghost use Rattle.symbols_exports.specs.ExportViews.{AreModulesOfExportsStored};
-ghost use Rattle.symbols_answers.specs.QueryAnswers.{some_if_strict};
-ghost use Rattle.symbols_queries.specs.AnswerViews.{exporter_view, shared_name_view as named_view};
-ghost use Rattle.symbols_queries.specs.AnswerViews.{shared_names_view};
+ghost use Rattle.symbols_answers.specs.Answers.{some_if_strict};
+ghost use Rattle.symbols_queries.specs.Queries.{exporter_view, shared_name_view as named_view, shared_names_view};
 
 use crate::exports_by_specifier::{StarStatementBySpecifier, chain_by_specifier};
 use std::alloc::{AllocError, Global};

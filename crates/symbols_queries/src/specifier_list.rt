@@ -2,7 +2,7 @@
 
 ghost use Rattle.std.specs.Prelude.{◌≡◌, ◌≤◌, ◌^◌, ◌∷◌, [], length, slice_get, OnOk};
 ghost use Rattle.std.specs.Option.{option_copied};
-ghost use Rattle.symbols_answers.specs.InputLists.{append_specifier_if_absent};
+ghost use Rattle.symbols_answers.specs.Questions.{append_specifier_if_absent};
 ghost use Rattle.symbols_queries.specs.inner.SpecifierLists.{specifiers_of_keys};
 
 use indexmap::IndexSet;

@@ -61,7 +61,8 @@ pub(crate) fn get_prefer_types<'a>(
         (λ found. IfSome found
         (λ m. module_with_specifier graph.now m.now.specifier ≡ Some m.now)) }
     ensures checked { IfOk result (λ found. IfSome found (λ m. IsCheckedContent m.now.content)) }
-    ensures chain { IsUniqueTypesChain graph.now specifier.now (types_chain graph.now specifier.now) }
+    ensures chain { IsUniqueTypesChain graph.now specifier.now
+        (types_chain graph.now specifier.now) }
     ensures few { length graph.now.modules < 4294967296 }
     ensures types { OnErr result (HasTypesDependency graph.now specifier.now) }
 {

@@ -13,7 +13,7 @@ use Rattle.symbols_ast.specs.Ids.{IdView}
 use Rattle.symbols_table.specs.SymbolViews.{symbol_view, symbol_from_changes, symbol_after_changes, symbol_view_of_number}
 use Rattle.symbols_ast.specs.declared.tree.arena.Tree.{Tree}
 use Rattle.symbols_ast.specs.NodeRefs.{child_list_in_field}
-use Rattle.symbols_ast.specs.ChildFields.{body_children_of}
+use Rattle.symbols_ast.specs.Fields.{body_children_of}
 use Rattle.symbols_nodes.specs.NodeViews.{program}
 use Rattle.symbols_table.specs.declared.builder.table.ModuleBuilder.{ModuleBuilder}
 use Rattle.symbols_table.specs.declared.builder.table.BuildFault.{BuildFault}

@@ -7,7 +7,7 @@ use Rattle.symbols_ast.specs.declared.tree.kinds.Member.TheVariants as Member
 use Rattle.symbols_ast.specs.declared.tree.kinds.Pat.TheVariants as Pat
 use Rattle.symbols_ast.specs.declared.tree.kinds.Expr.TheVariants as Expr
 use Rattle.symbols_ast.specs.Nodes.{child_numbers}
-use Rattle.symbols_ast.specs.ChildFields.{body_children_of, name_child_of, class_child_of, body_child_of, decl_child_of}
+use Rattle.symbols_ast.specs.Fields.{body_children_of, name_child_of, class_child_of, body_child_of, decl_child_of}
 use Rattle.symbols_table.specs.Patterns.{pattern_parts}
 use Rattle.symbols_table.proofs.CountsWeights.{weights, weights-append}
 

@@ -12,7 +12,7 @@ use Rattle.symbols_ast.specs.declared.tree.kinds.Decl.TheVariants as Decl
 use Rattle.symbols_ast.specs.declared.tree.kinds.Expr.TheVariants as Expr
 use Rattle.symbols_ast.specs.Nodes.{child_numbers}
 use Rattle.symbols_ast.specs.NodeRefs.{TreeNode, kind_of, node_in, child_in_field}
-use Rattle.symbols_ast.specs.ChildFields.{body_children_of, body_child_of, decl_child_of, expr_child_of, orig_child_of, local_child_of, id_child_of}
+use Rattle.symbols_ast.specs.Fields.{body_children_of, body_child_of, decl_child_of, expr_child_of, orig_child_of, local_child_of, id_child_of}
 use Rattle.symbols_ast.specs.Ids.{id_view, ident_id}
 use Rattle.symbols_nodes.specs.Expando.{Expando, expando_of_assignment}
 use Rattle.symbols_nodes.specs.NodeViews.{exported_ts_module}

@@ -13,7 +13,7 @@ use Rattle.symbols_ast.specs.declared.tree.kinds.Member.TheVariants as Member
 use Rattle.symbols_ast.specs.declared.tree.kinds.Pat.TheVariants as Pat
 use Rattle.symbols_ast.specs.Nodes.{kind_at, child_numbers}
 use Rattle.symbols_ast.specs.NodeRefs.{TreeNode, kind_of, node_in, child_in_field, child_list_in_field}
-use Rattle.symbols_ast.specs.ChildFields.{body_children_of, class_child_of, decl_children_of, name_child_of}
+use Rattle.symbols_ast.specs.Fields.{body_children_of, class_child_of, decl_children_of, name_child_of}
 use Rattle.symbols_ast.specs.Ids.{IdView, id_view, ident_id}
 use Rattle.symbols_nodes.specs.NodeViews.{SymbolNodeView, ExportDeclView}
 use Rattle.symbols_table.specs.declared.builder.scope.Scope.{Scope}

@@ -14,8 +14,8 @@ use Rattle.symbols_ast.specs.declared.tree.kinds.Decl.TheVariants as Decl
 use Rattle.symbols_ast.specs.declared.tree.kinds.Member.TheVariants as Member
 use Rattle.symbols_ast.specs.declared.tree.kinds.Expr.TheVariants as Expr
 use Rattle.symbols_ast.specs.NodeRefs.{TreeNode, kind_of, node_in, child_in_field, child_list_in_field}
-use Rattle.symbols_ast.specs.ChildFields.{body_children_of, body_child_of, decl_child_of, decl_children_of, expr_child_of, orig_child_of, local_child_of}
-use Rattle.symbols_ast.specs.ChildFields.{id_child_of, name_child_of}
+use Rattle.symbols_ast.specs.Fields.{body_children_of, body_child_of, decl_child_of, decl_children_of, expr_child_of, orig_child_of, local_child_of}
+use Rattle.symbols_ast.specs.Fields.{id_child_of, name_child_of}
 use Rattle.symbols_ast.specs.Ids.{IdView, id_view, ident_id}
 use Rattle.symbols_nodes.specs.DottedNames.{DottedName, entity_name}
 use Rattle.symbols_nodes.specs.Expando.{Expando, expando_of_assignment}

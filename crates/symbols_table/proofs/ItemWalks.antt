@@ -16,7 +16,7 @@ use Rattle.symbols_ast.specs.declared.tree.kinds.Expr.TheVariants as Expr
 use Rattle.symbols_ast.specs.declared.ids.SymbolId.{SymbolId}
 use Rattle.symbols_ast.specs.Nodes.{children, child_numbers}
 use Rattle.symbols_ast.specs.NodeRefs.{TreeNode, kind_of, node_in, child_in_field, child_list_in_field}
-use Rattle.symbols_ast.specs.ChildFields.{body_children_of, body_child_of, decl_child_of, id_child_of}
+use Rattle.symbols_ast.specs.Fields.{body_children_of, body_child_of, decl_child_of, id_child_of}
 use Rattle.symbols_ast.specs.WellFormed.{IsWellFormedTree}
 use Rattle.symbols_ast.specs.Ids.{IdView, id_view}
 use Rattle.symbols_nodes.specs.NodeViews.{ts_namespace, exported_ts_module}

@@ -11,7 +11,7 @@ use Rattle.symbols_ast.specs.declared.tree.kinds.Item.{Item}
 use Rattle.symbols_ast.specs.declared.ids.SymbolId.{SymbolId}
 use Rattle.symbols_ast.specs.declared.tree.arena.SourceRange.{SourceRange}
 use Rattle.symbols_ast.specs.NodeRefs.{TreeNode, kind_of, range_of, node_in}
-use Rattle.symbols_ast.specs.ChildFields.{local_child_of, id_child_of}
+use Rattle.symbols_ast.specs.Fields.{local_child_of, id_child_of}
 use Rattle.symbols_ast.specs.Ids.{id_view, ident_id}
 use Rattle.symbols_nodes.specs.Expando.{Expando, expando_of_assignment}
 use Rattle.symbols_nodes.specs.NodeViews.{expando_property, export_default_decl}

@@ -6,7 +6,7 @@ use Rattle.symbols_ast.specs.declared.tree.arena.SourceRange.{SourceRange}
 use Rattle.symbols_ast.specs.declared.tree.kinds.Kind.{Kind}
 use Rattle.symbols_ast.specs.declared.tree.kinds.Decl.TheVariants as Decl
 use Rattle.symbols_ast.specs.NodeRefs.{TreeNode, kind_of, node_in, child_in_field, child_list_in_field}
-use Rattle.symbols_ast.specs.ChildFields.{decl_children_of, id_child_of, ident_child_of, name_child_of}
+use Rattle.symbols_ast.specs.Fields.{decl_children_of, id_child_of, ident_child_of, name_child_of}
 use Rattle.symbols_ast.specs.Ids.{IdView, id_view, ident_id}
 use Rattle.symbols_nodes.specs.NodeViews.{SymbolNodeView, ExportDeclView, export_decl, class_decl, fn_decl, ts_enum, ts_interface}
 use Rattle.symbols_nodes.specs.NodeViews.{ts_namespace, ts_type_alias, var, using_var, exported_class, exported_fn, exported_ts_enum}

@@ -6,7 +6,7 @@ use Rattle.symbols_ast.specs.declared.tree.kinds.Kind.{Kind}
 use Rattle.symbols_ast.specs.declared.tree.kinds.Decl.TheVariants as Decl
 use Rattle.symbols_ast.specs.declared.tree.kinds.Member.TheVariants as Member
 use Rattle.symbols_ast.specs.NodeRefs.{TreeNode, kind_of, node_in, child_in_field, child_list_in_field}
-use Rattle.symbols_ast.specs.ChildFields.{body_children_of, class_child_of}
+use Rattle.symbols_ast.specs.Fields.{body_children_of, class_child_of}
 use Rattle.symbols_nodes.specs.NodeViews.{SymbolNodeView, class_method, class_prop, auto_accessor, class_param_prop, constructor}
 use Rattle.symbols_nodes.specs.NodeViews.{ts_index_signature, ts_call_signature_decl, ts_construct_signature_decl}
 use Rattle.symbols_nodes.specs.NodeViews.{ts_property_signature, ts_getter_signature, ts_setter_signature, ts_method_signature}

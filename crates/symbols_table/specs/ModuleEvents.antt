@@ -8,7 +8,7 @@ use Rattle.symbols_ast.specs.declared.tree.kinds.Kind.{Kind}
 use Rattle.symbols_ast.specs.declared.tree.kinds.Item.TheVariants as Item
 use Rattle.symbols_ast.specs.declared.tree.kinds.Expr.TheVariants as Expr
 use Rattle.symbols_ast.specs.NodeRefs.{TreeNode, kind_of, node_in, child_in_field}
-use Rattle.symbols_ast.specs.ChildFields.{local_child_of, orig_child_of, expr_child_of, decl_child_of, id_child_of}
+use Rattle.symbols_ast.specs.Fields.{local_child_of, orig_child_of, expr_child_of, decl_child_of, id_child_of}
 use Rattle.symbols_ast.specs.Ids.{id_view, ident_id}
 use Rattle.symbols_nodes.specs.DottedNames.{DottedName, entity_name}
 use Rattle.symbols_nodes.specs.Expando.{Expando, expando_of_assignment}

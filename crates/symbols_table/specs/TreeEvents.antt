@@ -7,7 +7,7 @@ use Rattle.symbols_ast.specs.declared.tree.kinds.Kind.{Kind}
 use Rattle.symbols_ast.specs.declared.tree.kinds.Item.TheVariants as Item
 use Rattle.symbols_ast.specs.declared.tree.kinds.Decl.TheVariants as Decl
 use Rattle.symbols_ast.specs.NodeRefs.{TreeNode, kind_of, node_in, child_in_field, child_list_in_field}
-use Rattle.symbols_ast.specs.ChildFields.{body_children_of, body_child_of, decl_child_of, id_child_of}
+use Rattle.symbols_ast.specs.Fields.{body_children_of, body_child_of, decl_child_of, id_child_of}
 use Rattle.symbols_ast.specs.Ids.{id_view}
 use Rattle.symbols_nodes.specs.NodeViews.{program, ts_namespace, exported_ts_module}
 use Rattle.symbols_table.specs.declared.builder.scope.Scope.{Scope}

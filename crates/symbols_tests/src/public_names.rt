@@ -11,9 +11,11 @@ use symbols_test_support::lifetimes::Checked;
 use symbols_test_support::{holds, there};
 
 /// A class, a function with a property, a namespace, and another name of the class.
-const MEMBERS: &str = r#"{"modules": [
-{"specifier": "m", "kind": "esm",
-    "text": "export class A { static s() {} m() {} constructor() {} } export function g() {} g.p = 1; export namespace N { export const c = 1 } export { A as B };",
+const MEMBERS: &str = concat!(
+    r#"{"modules": [{"specifier": "m", "kind": "esm", "text": "#,
+    r#""export class A { static s() {} m() {} constructor() {} } export function g() {} g.p = 1; "#,
+    r#"export namespace N { export const c = 1 } export { A as B };","#,
+    r#"
     "tree": {"nodes": [
     {"kind": "Program", "range": [0, 149], "body": [1, 15, 20, 26, 35]},
     {"kind": "ExportDecl", "range": [0, 56], "decl": 2},
@@ -55,7 +57,8 @@ const MEMBERS: &str = r#"{"modules": [
     {"kind": "Ident", "range": [140, 141], "sym": ["A", 1]}
 ]}}
 ],
-"resolutions": [["m", "./m", "m"]]}"#;
+"resolutions": [["m", "./m", "m"]]}"#
+);
 
 /// Module a has `export *` from b and c, and b from a. Each has names of its own.
 const DIAMOND: &str = r#"{"modules": [
@@ -97,7 +100,9 @@ const DIAMOND: &str = r#"{"modules": [
     {"kind": "Num", "range": [24, 25], "text": "1"}
 ]}}
 ],
-"resolutions": [["a", "./a", "a"], ["a", "./b", "b"], ["a", "./c", "c"], ["b", "./a", "a"], ["b", "./b", "b"], ["b", "./c", "c"], ["c", "./a", "a"], ["c", "./b", "b"], ["c", "./c", "c"]]}"#;
+"resolutions": [["a", "./a", "a"], ["a", "./b", "b"], ["a", "./c", "c"],
+    ["b", "./a", "a"], ["b", "./b", "b"], ["b", "./c", "c"],
+    ["c", "./a", "a"], ["c", "./b", "b"], ["c", "./c", "c"]]}"#;
 
 /// Module o has `export *` from n. Its class has an index signature, a constructor and one more
 /// static member.

@@ -5,10 +5,9 @@ use Rattle.serde_json.specs.Written.{compact_text}
 use Rattle.symbols_ast.specs.Graph.{GraphView}
 use Rattle.symbols_root.specs.declared.rules.Rules.{Rules}
 use Rattle.symbols_answers.specs.Questions.{QueryView}
-use Rattle.symbols_answers.specs.QueryAnswers.{query_answer}
+use Rattle.symbols_answers.specs.Answers.{query_answer}
 use Rattle.symq_reader.specs.GraphText.{json_of_bytes}
-use Rattle.symq_core.specs.Queries.{query_of_json}
-use Rattle.symq_core.specs.AnswerData.{answer_or_fault_json, query_result_json}
+use Rattle.symq_core.specs.Queries.{query_of_json, answer_or_fault_json, query_result_json}
 use Rattle.symq_core.specs.AnswerTexts.{answer_text}
 
 pub line_answer_same : (rules : Rules) (graph other : GraphView) → ((query : QueryView) → query_answer rules graph query ≡ query_answer rules other query)

@@ -5,8 +5,7 @@ use Rattle.std.specs.Map.{lookup}
 use Rattle.std.specs.Str.{bytes_eq}
 use Rattle.symbols_ast.specs.Graph.{GraphView, module_after_redirect}
 use Rattle.symbols_graph.specs.PutModules.{IsSameGraph}
-use Rattle.symbols_answers.specs.Questions.{QueryView}
-use Rattle.symbols_answers.specs.QueryReach.{AreAlikeForQuery}
+use Rattle.symbols_answers.specs.Questions.{QueryView, AreAlikeForQuery}
 
 pub same_through : (a b c : GraphView) → IsSameGraph a b → IsSameGraph b c → IsSameGraph a c
 same_through a b c p q = (q.0 ∙ p.0, q.1 ∙ p.1, λ r t. q.2 r t ∙ p.2 r t)

@@ -32,7 +32,8 @@ pub(crate) fn answer_over(
     ensures answered { result ≡ 0
         → IsTruncatedCopyToBuffer (output_text_of (answer_text rules graph.now) lines.now) out.old
         out.new needed.new }
-    ensures memory { result ≡ 7 → IsTruncatedCopyToBuffer out_of_memory_line out.old out.new needed.new }
+    ensures memory { result ≡ 7
+        → IsTruncatedCopyToBuffer out_of_memory_line out.old out.new needed.new }
     ensures no_other { (result ≡ 0) ⊎ (result ≡ 7) }
 {
     match answers(alloc, rules, graph, lines) {
@@ -62,7 +63,8 @@ pub(crate) fn answer_by_rules(
         × IsTruncatedCopyToBuffer (format_fault_line fault) out.old out.new needed.new }
     ensures refused { result ≡ 5 → (fault : GraphFault) × IsFirstGraphFaultOfText text.now fault
         × IsTruncatedCopyToBuffer (graph_fault_line fault) out.old out.new needed.new }
-    ensures memory { result ≡ 7 → IsTruncatedCopyToBuffer out_of_memory_line out.old out.new needed.new }
+    ensures memory { result ≡ 7
+        → IsTruncatedCopyToBuffer out_of_memory_line out.old out.new needed.new }
     ensures no_other { (result ≡ 0) ⊎ (result ≡ 4) ⊎ (result ≡ 5) ⊎ (result ≡ 7) }
 {
     let graph = match graph_of(alloc, key_bytes, text) {
@@ -92,7 +94,8 @@ pub extern "C" fn symq_answer(
         × IsTruncatedCopyToBuffer (format_fault_line fault) out.old out.new needed.new }
     ensures refused { result ≡ 5 → (fault : GraphFault) × IsFirstGraphFaultOfText text.now fault
         × IsTruncatedCopyToBuffer (graph_fault_line fault) out.old out.new needed.new }
-    ensures memory { result ≡ 7 → IsTruncatedCopyToBuffer out_of_memory_line out.old out.new needed.new }
+    ensures memory { result ≡ 7
+        → IsTruncatedCopyToBuffer out_of_memory_line out.old out.new needed.new }
     ensures no_other { (result ≡ 0) ⊎ (result ≡ 4) ⊎ (result ≡ 5) ⊎ (result ≡ 7) }
 {
     let fixed = KeyBytes::new([0; 16]);
@@ -115,7 +118,8 @@ pub extern "C" fn symq_strict_answer(
         × IsTruncatedCopyToBuffer (format_fault_line fault) out.old out.new needed.new }
     ensures refused { result ≡ 5 → (fault : GraphFault) × IsFirstGraphFaultOfText text.now fault
         × IsTruncatedCopyToBuffer (graph_fault_line fault) out.old out.new needed.new }
-    ensures memory { result ≡ 7 → IsTruncatedCopyToBuffer out_of_memory_line out.old out.new needed.new }
+    ensures memory { result ≡ 7
+        → IsTruncatedCopyToBuffer out_of_memory_line out.old out.new needed.new }
     ensures no_other { (result ≡ 0) ⊎ (result ≡ 4) ⊎ (result ≡ 5) ⊎ (result ≡ 7) }
 {
     let fixed = KeyBytes::new([0; 16]);

@@ -43,7 +43,8 @@ pub extern "C" fn symq_put(
     ensures memory { result ≡ 7 → IsSomeAnd session.old.session_handle.state (λ _.
         IsTruncatedCopyToBuffer out_of_memory_line out.old out.new needed.new) }
     ensures no_other { (result ≡ 0) ⊎ (result ≡ 1) ⊎ (result ≡ 4) ⊎ (result ≡ 5) ⊎ (result ≡ 7) }
-    ensures stays { result ≢ 0 → session.new.session_handle.state ≡ session.old.session_handle.state }
+    ensures stays { result ≢ 0 → session.new.session_handle.state
+        ≡ session.old.session_handle.state }
 {
     let Some(mut state) = session.take(alloc) else {
         hand_out(b"symq: the session is closed", out, needed);

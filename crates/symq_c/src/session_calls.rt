@@ -31,13 +31,15 @@ pub(crate) fn open_by_rules(
     out: &mut [u8],
     needed: &mut usize,
 ) -> u8
-    ensures opened { result ≡ 0 → IsSomeAnd session.new.session_handle.state (IsSessionStateOfText text.now
-        rules) × IsTruncatedCopyToBuffer [] out.old out.new needed.new }
+    ensures opened { result ≡ 0
+        → IsSomeAnd session.new.session_handle.state (IsSessionStateOfText text.now rules)
+        × IsTruncatedCopyToBuffer [] out.old out.new needed.new }
     ensures no_graph { result ≡ 4 → (fault : FormatFault) × IsFormatFaultOfText text.now fault
         × IsTruncatedCopyToBuffer (format_fault_line fault) out.old out.new needed.new }
     ensures refused { result ≡ 5 → (fault : GraphFault) × IsFirstGraphFaultOfText text.now fault
         × IsTruncatedCopyToBuffer (graph_fault_line fault) out.old out.new needed.new }
-    ensures memory { result ≡ 7 → IsTruncatedCopyToBuffer out_of_memory_line out.old out.new needed.new }
+    ensures memory { result ≡ 7
+        → IsTruncatedCopyToBuffer out_of_memory_line out.old out.new needed.new }
     ensures no_other { (result ≡ 0) ⊎ (result ≡ 4) ⊎ (result ≡ 5) ⊎ (result ≡ 7) }
     ensures closed { result ≢ 0 → session.new.session_handle.state ≡ None }
 {
@@ -62,13 +64,15 @@ pub extern "C" fn symq_open(
     out: &mut [u8],
     needed: &mut usize,
 ) -> u8
-    ensures opened { result ≡ 0 → IsSomeAnd session.new.session_handle.state (IsSessionStateOfText text.now
-        rules.Deno) × IsTruncatedCopyToBuffer [] out.old out.new needed.new }
+    ensures opened { result ≡ 0
+        → IsSomeAnd session.new.session_handle.state (IsSessionStateOfText text.now rules.Deno)
+        × IsTruncatedCopyToBuffer [] out.old out.new needed.new }
     ensures no_graph { result ≡ 4 → (fault : FormatFault) × IsFormatFaultOfText text.now fault
         × IsTruncatedCopyToBuffer (format_fault_line fault) out.old out.new needed.new }
     ensures refused { result ≡ 5 → (fault : GraphFault) × IsFirstGraphFaultOfText text.now fault
         × IsTruncatedCopyToBuffer (graph_fault_line fault) out.old out.new needed.new }
-    ensures memory { result ≡ 7 → IsTruncatedCopyToBuffer out_of_memory_line out.old out.new needed.new }
+    ensures memory { result ≡ 7
+        → IsTruncatedCopyToBuffer out_of_memory_line out.old out.new needed.new }
     ensures no_other { (result ≡ 0) ⊎ (result ≡ 4) ⊎ (result ≡ 5) ⊎ (result ≡ 7) }
     ensures closed { result ≢ 0 → session.new.session_handle.state ≡ None }
 {
@@ -85,13 +89,15 @@ pub extern "C" fn symq_strict_open(
     out: &mut [u8],
     needed: &mut usize,
 ) -> u8
-    ensures opened { result ≡ 0 → IsSomeAnd session.new.session_handle.state (IsSessionStateOfText text.now
-        rules.Strict) × IsTruncatedCopyToBuffer [] out.old out.new needed.new }
+    ensures opened { result ≡ 0
+        → IsSomeAnd session.new.session_handle.state (IsSessionStateOfText text.now rules.Strict)
+        × IsTruncatedCopyToBuffer [] out.old out.new needed.new }
     ensures no_graph { result ≡ 4 → (fault : FormatFault) × IsFormatFaultOfText text.now fault
         × IsTruncatedCopyToBuffer (format_fault_line fault) out.old out.new needed.new }
     ensures refused { result ≡ 5 → (fault : GraphFault) × IsFirstGraphFaultOfText text.now fault
         × IsTruncatedCopyToBuffer (graph_fault_line fault) out.old out.new needed.new }
-    ensures memory { result ≡ 7 → IsTruncatedCopyToBuffer out_of_memory_line out.old out.new needed.new }
+    ensures memory { result ≡ 7
+        → IsTruncatedCopyToBuffer out_of_memory_line out.old out.new needed.new }
     ensures no_other { (result ≡ 0) ⊎ (result ≡ 4) ⊎ (result ≡ 5) ⊎ (result ≡ 7) }
     ensures closed { result ≢ 0 → session.new.session_handle.state ≡ None }
 {

@@ -11,7 +11,7 @@ use Rattle.symbols_queries.specs.declared.paths_by_specifier.UnresolvedBySpecifi
 use Rattle.symbols_queries.specs.declared.paths_by_specifier.PathLinkBySpecifier.{PathLinkBySpecifier}
 use Rattle.symbols_queries.specs.declared.paths_by_specifier.PathBySpecifier.{PathBySpecifier, the_lemmas}
 use Rattle.symbols_queries.specs.declared.paths_by_specifier.PathBySpecifier.TheVariants as path
-use Rattle.symbols_queries.specs.AnswerViews.{decl_with_specifier, definition_by_specifier_view, unresolved_by_specifier_view, path_tree_view, path_forest_view}
+use Rattle.symbols_queries.specs.Queries.{decl_with_specifier, definition_by_specifier_view, unresolved_by_specifier_view, path_tree_view, path_forest_view}
 use Rattle.symbols_queries.specs.inner.AnswerViews.{path_link_view}
 use Rattle.symq_core.specs.declared.write_paths.OpenLink.{OpenLink}
 use Rattle.symq_core.specs.PathData.{link_members_after_next, path_tree_json, path_forest_json_items}

@@ -3,8 +3,8 @@ use Rattle.std.proofs.Common.{◌≡◌, None, inl, inr}
 use Rattle.symbols_table.specs.declared.info.fault.SymbolsFault.TheVariants.{UnknownSymbol}
 use Rattle.symbols_root.specs.Roots.{RootView}
 use Rattle.symbols_answers.specs.Questions.{QueryView}
-use Rattle.symbols_answers.specs.QueryAnswers.{query_answer}
-use Rattle.symbols_queries.specs.QueryFaults.{IsQueryFault}
+use Rattle.symbols_answers.specs.Answers.{query_answer}
+use Rattle.symbols_queries.specs.Queries.{IsQueryFault}
 
 pub none_answered : (old new : RootView) (query : QueryView) → IsQueryFault old new query UnknownSymbol → query_answer old.rules old.graph query ≡ None
 none_answered old new query (inl unknown) = unknown.no_answer

@@ -9,7 +9,7 @@ use Rattle.serde_json.proofs.Texts.{print-outline}
 use Rattle.symq_core.specs.inner.JsonWriting.{AppendsTokens, tokens_of, remaining_member_tokens, star_member_tokens, found_member_tokens}
 use Rattle.symbols_table.specs.DeclViews.{FileDepView}
 use Rattle.symbols_answers.specs.Inputs.{FoundView, found_module, found_redirect, found_absent}
-use Rattle.symq_core.specs.AnswerData.{members_with_found}
+use Rattle.symq_core.specs.Queries.{members_with_found}
 use Rattle.symq_core.specs.PathData.{members_with_star}
 
 -- a write that succeeded has appended its token

@@ -4,8 +4,7 @@ use Rattle.serde_json.specs.Written.{compact_text}
 use Rattle.symbols_ast.specs.Graph.{GraphView}
 use Rattle.symbols_root.specs.declared.rules.Rules.{Rules}
 use Rattle.symq_reader.specs.GraphText.{json_of_bytes}
-use Rattle.symq_core.specs.Queries.{query_of_json}
-use Rattle.symq_core.specs.AnswerData.{query_result_json}
+use Rattle.symq_core.specs.Queries.{query_of_json, query_result_json}
 
 -- the answer to a line by these rules as compact JSON, without a line end
 unfoldable pub answer_text : Rules → GraphView → List ℕ → List ℕ

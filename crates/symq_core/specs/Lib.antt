@@ -1,8 +1,7 @@
 pub mod ReferenceForms
-pub mod Queries
 pub mod TextsData
 pub mod PathData
-pub mod AnswerData
+pub mod Queries
 pub mod AnswerTexts
 pub mod Devices
 pub mod Lines

@@ -1,74 +1,29 @@
 //! Answers a query line as JSON.
 
-ghost use Rattle.std.specs.Prelude.{◌≡◌, ◌++◌, option_map, string_bytes, IfOk};
+ghost use Rattle.std.specs.Prelude.{◌≡◌, ◌++◌, IfOk};
 ghost use Rattle.std.specs.Option.{option_and_then};
 ghost use Rattle.symbols_root.specs.Growing.{HasGrown};
 ghost use Rattle.symbols_root.specs.Roots.{widest_limits};
-ghost use Rattle.symbols_answers.specs.Answers.{answer_symbol, answer_name};
-ghost use Rattle.symbols_answers.specs.QueryAnswers.{query_answer};
+ghost use Rattle.symbols_answers.specs.Answers.{query_answer};
 ghost use Rattle.symbols_answers.specs.Questions.{inputs_query};
-ghost use Rattle.symbols_queries.specs.AnswerViews.{answer_view};
 ghost use Rattle.symbols_queries.specs.Queries.{query_view};
 ghost use Rattle.symq_reader.specs.GraphText.{json_of_bytes};
 ghost use Rattle.symq_reader.specs.JsonData.{value_data};
-ghost use Rattle.symq_core.specs.Queries.{query_of_json, inputs_query_of_data};
-ghost use Rattle.symq_core.specs.AnswerData.{answer_json, answer_or_fault_json, query_result_json};
+ghost use Rattle.symq_core.specs.Queries.{query_of_json, inputs_query_of_data, answer_or_fault_json};
+ghost use Rattle.symq_core.specs.Queries.{query_result_json};
 ghost use Rattle.symq_core.specs.AnswerTexts.{answer_text};
 ghost use Rattle.symq_core.specs.inner.JsonWriting.{AppendsValueTokensIfOk};
 
 use crate::fast_path::fast_path_query;
-use crate::query::{keyword_specifier_and_items, query_by_keyword, read_queried};
-use crate::write_exports::write_exports;
-use crate::write_json::{write_list, write_null, write_number, write_text};
-use crate::write_paths::write_paths;
+use crate::query::{keyword_specifier_and_items, query_by_keyword, read_queried, write_answer};
+use crate::write_json::{write_list, write_text};
 use json::{Scratch, Value, Writer};
 use std::alloc::{AllocError, Global};
-use symbols_graph::ids::SymbolId;
 use symbols_graph::tree::Id;
-use symbols_queries::{Answer, AnswerQueries, Query};
+use symbols_queries::{AnswerQueries, Query};
 use symbols_root::RootSymbol;
 use symbols_table::info::SymbolsFault;
 use symq_reader::read_value;
-
-/// Writes the symbol that a name refers to, or null.
-fn write_symbol(out: &mut Writer, symbol: Option<SymbolId>) -> Result<(), AllocError>
-    ensures { AppendsValueTokensIfOk result out.old out.new (answer_json (answer_symbol symbol)) }
-{
-    match symbol {
-        Some(symbol) => write_number(out, "symbol", u64::from(symbol.number())),
-        None => write_null(out, "symbol"),
-    }
-}
-
-/// Writes the fully qualified name of a symbol, or null.
-fn write_name(out: &mut Writer, name: &Option<String>) -> Result<(), AllocError>
-    ensures { AppendsValueTokensIfOk result out.old out.new
-        (answer_json (answer_name (option_map string_bytes name.now))) }
-{
-    match name {
-        Some(name) => write_text(out, "name", name.as_str()),
-        None => write_null(out, "name"),
-    }
-}
-
-/// Writes an answer as JSON; null if the specifier resolves to no module.
-fn write_answer(out: &mut Writer, answer: &Answer<'_>) -> Result<(), AllocError>
-    ensures { AppendsValueTokensIfOk result out.old out.new (answer_json (answer_view answer.now)) }
-{
-    match answer {
-        Answer::NoModule => out.null(),
-        Answer::Module(specifier) => write_text(out, "module", specifier),
-        Answer::Exports(named) => write_exports(out, named),
-        Answer::Names(names) => write_list(out, "names", names),
-        Answer::Symbol(symbol) => write_symbol(out, *symbol),
-        Answer::Name(name) => write_name(out, name),
-        Answer::Deps(deps) => write_list(out, "deps", deps),
-        Answer::Paths(paths) => write_paths(out, paths),
-        Answer::Definitions(definitions) => write_list(out, "definitions", definitions),
-        Answer::Leaves(ends) => write_list(out, "leaves", ends),
-        Answer::Resolve(entries) => write_list(out, "entries", entries),
-    }
-}
 
 /// Writes the answer to a query. The limits of the root are so wide that no checked graph exceeds
 /// them. It writes a fault if the module has no such symbol.

@@ -138,7 +138,8 @@ fn tree_fault_text(alloc: Global, fault: TreeFault) -> Result<String, AllocError
 
 /// Returns the number of a fault and the number of a node, separated by a space.
 fn tree_fault_node_text(alloc: Global, fault_number: u8, node: NodeId) -> Result<String, AllocError>
-    ensures { IfOk result (λ text. string_bytes text ≡ tree_fault_and_node_numbers_text fault_number node) }
+    ensures { IfOk result (λ text. string_bytes text
+        ≡ tree_fault_and_node_numbers_text fault_number node) }
 {
     let number = node.index();
     format!(in alloc; "{fault_number} {number}")

@@ -5,63 +5,15 @@
 
 ghost use Rattle.std.specs.Prelude.{◌≡◌, Some, IfSome, option_map};
 ghost use Rattle.std.specs.Option.{option_and_then};
-ghost use Rattle.serde_json.specs.Data.{unsigned, number, string, no_items, item};
 ghost use Rattle.symbols_queries.specs.Queries.{query_with_question, query_view};
 ghost use Rattle.symq_reader.specs.GraphText.{json_of_bytes};
 ghost use Rattle.symq_reader.specs.QueryLists.{items_after_two_strings};
 ghost use Rattle.symq_core.specs.Queries.{question_by_keyword, query_of_json};
 
-use crate::query::deps_mode_by_keyword;
+use crate::query::{query_of_mode, query_of_module, query_of_symbol};
 use symbols_graph::ids::SymbolId;
 use symbols_queries::Query;
 use symq_reader::{ListTail, QueryList, read_query_list};
-
-/// Returns the query of a keyword with a specifier alone; `None` if no such query has this keyword.
-fn query_of_module<'r>(keyword: &str, specifier: &'r str) -> Option<Query<'r>>
-    ensures { option_map query_view result
-        ≡ option_map (query_with_question specifier.now) (question_by_keyword keyword.now no_items) }
-{
-    match keyword {
-        "module" => Some(Query::Module(specifier)),
-        "exports" => Some(Query::Exports(specifier)),
-        "names" => Some(Query::Names(specifier)),
-        _ => None,
-    }
-}
-
-/// Returns the query of a keyword with a specifier and a symbol; `None` if no such query has this
-/// keyword.
-fn query_of_symbol<'r>(keyword: &str, specifier: &'r str, symbol: SymbolId) -> Option<Query<'r>>
-    ensures { option_map query_view result ≡ option_map (query_with_question specifier.now)
-        (question_by_keyword
-        keyword.now (item (number (unsigned symbol.0)) no_items)) }
-{
-    match keyword {
-        "name" => Some(Query::Name(specifier, symbol)),
-        "paths" => Some(Query::Paths(specifier, symbol)),
-        "definitions" => Some(Query::Definitions(specifier, symbol)),
-        "leaves" => Some(Query::Leaves(specifier, symbol)),
-        _ => None,
-    }
-}
-
-/// Returns the query of a keyword with a specifier, a symbol and a mode; `None` if no such query
-/// has this keyword or the mode is unknown.
-fn query_of_mode<'r>(
-    keyword: &str,
-    specifier: &'r str,
-    symbol: SymbolId,
-    mode: &str,
-) -> Option<Query<'r>>
-    ensures { option_map query_view result ≡ option_map (query_with_question specifier.now)
-        (question_by_keyword keyword.now
-        (item (number (unsigned symbol.0)) (item (string mode.now) no_items))) }
-{
-    match keyword {
-        "deps" => Some(Query::Deps(specifier, symbol, deps_mode_by_keyword(mode)?)),
-        _ => None,
-    }
-}
 
 /// Returns the query of a list on the fast path; `None` if it is no query.
 fn query_of_list<'r>(list: &QueryList<'r>) -> Option<Query<'r>>

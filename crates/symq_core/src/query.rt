@@ -1,23 +1,31 @@
-//! Reads queries from JSON values.
+//! The forms of queries: reads each from a JSON value or from what the fast path found, and writes
+//! its answer.
 
-ghost use Rattle.std.specs.Prelude.{◌≡◌, option_map, IfOk};
+ghost use Rattle.std.specs.Prelude.{◌≡◌, option_map, string_bytes, IfOk};
+ghost use Rattle.serde_json.specs.Data.{unsigned, number, string, no_items, item};
+ghost use Rattle.symbols_answers.specs.Answers.{answer_symbol, answer_name};
 ghost use Rattle.symbols_answers.specs.Questions.{inputs_query};
-ghost use Rattle.symbols_queries.specs.Queries.{query_with_question, query_view};
+ghost use Rattle.symbols_queries.specs.Queries.{query_with_question, query_view, answer_view};
 ghost use Rattle.symq_reader.specs.JsonData.{value_data, items_data};
 ghost use Rattle.symq_core.specs.Queries.{keyword_specifier_and_items, query_by_keyword, value_after_inputs};
 ghost use Rattle.symq_core.specs.Queries.{inputs_query_of_data, read_module_question, read_exports_question};
 ghost use Rattle.symq_core.specs.Queries.{read_public_names_question, read_symbol_of_ident_question};
 ghost use Rattle.symq_core.specs.Queries.{read_single_symbol_id, read_qualified_name_question, read_paths_question};
 ghost use Rattle.symq_core.specs.Queries.{read_definitions_question, read_leaves_question, deps_mode_by_keyword};
-ghost use Rattle.symq_core.specs.Queries.{read_deps_question, read_resolve_question};
+ghost use Rattle.symq_core.specs.Queries.{read_deps_question, read_resolve_question, question_by_keyword};
+ghost use Rattle.symq_core.specs.Queries.{answer_json};
+ghost use Rattle.symq_core.specs.inner.JsonWriting.{AppendsValueTokensIfOk};
 
 use crate::references::{read_id, read_reference};
-use json::Value;
+use crate::write_exports::write_exports;
+use crate::write_json::{write_list, write_null, write_number, write_text};
+use crate::write_paths::write_paths;
+use json::{Value, Writer};
 use std::alloc::{AllocError, Global};
 use symbols_graph::ids::SymbolId;
 use symbols_graph::tree::Id;
 use symbols_nodes::deps::ResolveDepsMode;
-use symbols_queries::Query;
+use symbols_queries::{Answer, Query};
 use symq_reader::{as_list, as_text, as_u32};
 
 /// Returns the keyword, the specifier and the items after them; `None` if the value isn't such a
@@ -107,8 +115,8 @@ fn read_single_symbol_id(items: &[Value<'_>]) -> Option<SymbolId>
 
 /// Returns the query `name`; `None` if the items aren't one symbol.
 fn name_query<'r>(specifier: &'r str, items: &[Value<'_>]) -> Option<Query<'r>>
-    ensures { option_map query_view result
-        ≡ option_map (query_with_question specifier.now) (read_qualified_name_question (items_data items.now)) }
+    ensures { option_map query_view result ≡ option_map
+        (query_with_question specifier.now) (read_qualified_name_question (items_data items.now)) }
 {
     let symbol = read_single_symbol_id(items)?;
     Some(Query::Name(specifier, symbol))
@@ -181,8 +189,8 @@ pub(crate) fn deps_mode_by_keyword(keyword: &str) -> Option<ResolveDepsMode>
 /// mode.
 #[tactic(auto, using(crate::proofs::Forms::deps_short, crate::proofs::Forms::deps_long))]
 fn deps_query<'r>(specifier: &'r str, items: &[Value<'_>]) -> Option<Query<'r>>
-    ensures { option_map query_view result
-        ≡ option_map (query_with_question specifier.now) (read_deps_question (items_data items.now)) }
+    ensures { option_map query_view result ≡ option_map
+        (query_with_question specifier.now) (read_deps_question (items_data items.now)) }
 {
     let [number, mode] = items else {
         return None;
@@ -219,6 +227,57 @@ pub(crate) fn query_by_keyword<'r>(
     }
 }
 
+/// Returns the query of a keyword with a specifier alone; `None` if no such query has this keyword.
+pub(crate) fn query_of_module<'r>(keyword: &str, specifier: &'r str) -> Option<Query<'r>>
+    ensures { option_map query_view result ≡ option_map
+        (query_with_question specifier.now) (question_by_keyword keyword.now no_items) }
+{
+    match keyword {
+        "module" => Some(Query::Module(specifier)),
+        "exports" => Some(Query::Exports(specifier)),
+        "names" => Some(Query::Names(specifier)),
+        _ => None,
+    }
+}
+
+/// Returns the query of a keyword with a specifier and a symbol; `None` if no such query has this
+/// keyword.
+pub(crate) fn query_of_symbol<'r>(
+    keyword: &str,
+    specifier: &'r str,
+    symbol: SymbolId,
+) -> Option<Query<'r>>
+    ensures { option_map query_view result ≡ option_map (query_with_question specifier.now)
+        (question_by_keyword
+        keyword.now (item (number (unsigned symbol.0)) no_items)) }
+{
+    match keyword {
+        "name" => Some(Query::Name(specifier, symbol)),
+        "paths" => Some(Query::Paths(specifier, symbol)),
+        "definitions" => Some(Query::Definitions(specifier, symbol)),
+        "leaves" => Some(Query::Leaves(specifier, symbol)),
+        _ => None,
+    }
+}
+
+/// Returns the query of a keyword with a specifier, a symbol and a mode; `None` if no such query
+/// has this keyword or the mode is unknown.
+pub(crate) fn query_of_mode<'r>(
+    keyword: &str,
+    specifier: &'r str,
+    symbol: SymbolId,
+    mode: &str,
+) -> Option<Query<'r>>
+    ensures { option_map query_view result ≡ option_map (query_with_question specifier.now)
+        (question_by_keyword keyword.now
+        (item (number (unsigned symbol.0)) (item (string mode.now) no_items))) }
+{
+    match keyword {
+        "deps" => Some(Query::Deps(specifier, symbol, deps_mode_by_keyword(mode)?)),
+        _ => None,
+    }
+}
+
 /// Returns the value after the keyword `inputs`; `None` if the value isn't a list of these two.
 #[tactic(auto, using(crate::proofs::Forms::inputs_short, crate::proofs::Forms::inputs_long))]
 fn value_after_inputs<'v, 'a>(value: &'v Value<'a>) -> Option<&'v Value<'a>>
@@ -252,5 +311,45 @@ pub(crate) fn read_queried<'r>(
             query_by_keyword(alloc, keyword, specifier, items, retained)
         }
         None => Ok(None),
+    }
+}
+
+/// Writes the symbol that a name refers to, or null.
+fn write_symbol(out: &mut Writer, symbol: Option<SymbolId>) -> Result<(), AllocError>
+    ensures { AppendsValueTokensIfOk result out.old out.new (answer_json (answer_symbol symbol)) }
+{
+    match symbol {
+        Some(symbol) => write_number(out, "symbol", u64::from(symbol.number())),
+        None => write_null(out, "symbol"),
+    }
+}
+
+/// Writes the fully qualified name of a symbol, or null.
+fn write_name(out: &mut Writer, name: &Option<String>) -> Result<(), AllocError>
+    ensures { AppendsValueTokensIfOk result out.old out.new
+        (answer_json (answer_name (option_map string_bytes name.now))) }
+{
+    match name {
+        Some(name) => write_text(out, "name", name.as_str()),
+        None => write_null(out, "name"),
+    }
+}
+
+/// Writes an answer as JSON; null if the specifier resolves to no module.
+pub(crate) fn write_answer(out: &mut Writer, answer: &Answer<'_>) -> Result<(), AllocError>
+    ensures { AppendsValueTokensIfOk result out.old out.new (answer_json (answer_view answer.now)) }
+{
+    match answer {
+        Answer::NoModule => out.null(),
+        Answer::Module(specifier) => write_text(out, "module", specifier),
+        Answer::Exports(named) => write_exports(out, named),
+        Answer::Names(names) => write_list(out, "names", names),
+        Answer::Symbol(symbol) => write_symbol(out, *symbol),
+        Answer::Name(name) => write_name(out, name),
+        Answer::Deps(deps) => write_list(out, "deps", deps),
+        Answer::Paths(paths) => write_paths(out, paths),
+        Answer::Definitions(definitions) => write_list(out, "definitions", definitions),
+        Answer::Leaves(ends) => write_list(out, "leaves", ends),
+        Answer::Resolve(entries) => write_list(out, "entries", entries),
     }
 }

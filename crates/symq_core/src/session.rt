@@ -99,8 +99,8 @@ impl<'g> Session<'g> {
             (Appends (W.written writer.old) (W.written writer.new) self.old.answers.items
             × (self.new.answers.items ≡ []) × (W.failures writer.new ≡ W.failures writer.old)) }
         ensures err { IfErr result (λ fault. (fault ≡ EngineFault.OutputFailed)
-            × IsPrefixAppendedToOutput (W.written writer.old) (W.written writer.new) self.old.answers.items
-            × (W.failures writer.new ≡ W.failures writer.old + 1)) }
+            × IsPrefixAppendedToOutput (W.written writer.old) (W.written writer.new)
+            self.old.answers.items × (W.failures writer.new ≡ W.failures writer.old + 1)) }
     {
         write_all(writer, self.answers.as_slice())?;
         self.answers.clear();

@@ -6,9 +6,9 @@ ghost use Rattle.serde_json.specs.Data.{string};
 ghost use Rattle.symbols_ast.specs.Ids.{id_view};
 ghost use Rattle.symbols_nodes.specs.References.{NamespacedReference, id as by_id, qualified_id};
 ghost use Rattle.symbols_nodes.specs.References.{import_type, reference_view, namespaced_reference_view};
-ghost use Rattle.symbols_queries.specs.AnswerViews.{deps_view};
-ghost use Rattle.symq_core.specs.AnswerData.{reference_json, reference_namespace_str};
-ghost use Rattle.symq_core.specs.AnswerData.{namespaced_reference_json, references_of_decl_json};
+ghost use Rattle.symbols_queries.specs.Queries.{deps_view};
+ghost use Rattle.symq_core.specs.Queries.{reference_json, reference_namespace_str, namespaced_reference_json};
+ghost use Rattle.symq_core.specs.Queries.{references_of_decl_json};
 ghost use Rattle.symq_core.specs.inner.JsonWriting.{AppendsValueTokensIfOk};
 
 use crate::write_json::{WriteJson, write_items};

@@ -4,10 +4,9 @@ ghost use Rattle.std.specs.Prelude.{map, option_map, codes};
 ghost use Rattle.serde_json.specs.Data.{member, no_members};
 ghost use Rattle.symbols_exports.specs.ExportViews.{ExportView, StarStatementView};
 ghost use Rattle.symbols_answers.specs.Answers.{answer_exports};
-ghost use Rattle.symbols_queries.specs.AnswerViews.{star_statement_by_specifier_view, export_view};
-ghost use Rattle.symbols_queries.specs.AnswerViews.{shared_names_view};
-ghost use Rattle.symq_core.specs.AnswerData.{star_statement_json, star_statements_json};
-ghost use Rattle.symq_core.specs.AnswerData.{export_json, members_with_shared, answer_json};
+ghost use Rattle.symbols_queries.specs.Queries.{star_statement_by_specifier_view, export_view, shared_names_view};
+ghost use Rattle.symq_core.specs.Queries.{star_statement_json, star_statements_json, export_json, members_with_shared};
+ghost use Rattle.symq_core.specs.Queries.{answer_json};
 ghost use Rattle.symq_core.specs.inner.JsonWriting.{AppendsValueTokensIfOk, AppendsTokensIfOk};
 ghost use Rattle.symq_core.specs.inner.JsonWriting.{remaining_member_tokens};
 
@@ -58,7 +57,8 @@ fn end_unresolved(
     out: &mut Writer,
     unresolved: &[StarStatementBySpecifier<'_>],
 ) -> Result<(), AllocError>
-    ensures { AppendsTokensIfOk result out.old out.new (remaining_member_tokens (member (codes "unresolved")
+    ensures { AppendsTokensIfOk result out.old out.new
+        (remaining_member_tokens (member (codes "unresolved")
         (star_statements_json (map star_statement_by_specifier_view unresolved.now)) no_members)) }
 {
     out.key("unresolved")?;
@@ -69,11 +69,10 @@ fn end_unresolved(
 /// Writes what follows the exports and ends the object: by strict rules the shared names, then the
 /// unresolved `export *` statements.
 fn end_exports(out: &mut Writer, named: &ExportsBySpecifier<'_>) -> Result<(), AllocError>
-    ensures { AppendsTokensIfOk result out.old out.new
-        (remaining_member_tokens (members_with_shared (option_map shared_names_view named.now.shared)
-        (member (codes "unresolved")
-        (star_statements_json (map star_statement_by_specifier_view named.now.unresolved.items))
-        no_members))) }
+    ensures { AppendsTokensIfOk result out.old out.new (remaining_member_tokens
+        (members_with_shared (option_map shared_names_view named.now.shared)
+        (member (codes "unresolved") (star_statements_json
+        (map star_statement_by_specifier_view named.now.unresolved.items)) no_members))) }
 {
     match &named.shared {
         None => end_unresolved(out, &named.unresolved),

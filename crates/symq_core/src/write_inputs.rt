@@ -1,8 +1,8 @@
 //! Writes the inputs of a query as JSON.
 
 ghost use Rattle.symbols_answers.specs.Inputs.{InputView};
-ghost use Rattle.symbols_queries.specs.AnswerViews.{found_view, input_view};
-ghost use Rattle.symq_core.specs.AnswerData.{input_json};
+ghost use Rattle.symbols_queries.specs.Queries.{found_view, input_view};
+ghost use Rattle.symq_core.specs.Queries.{input_json};
 ghost use Rattle.symq_core.specs.inner.JsonWriting.{AppendsTokensIfOk, found_member_tokens};
 
 use crate::write_json::{WriteJson, add_text};
@@ -13,7 +13,8 @@ use symbols_queries::{Found, QueryInput};
 /// Writes what the graph has under a specifier as the member `found`. After it follows the member
 /// `module` for a specifier that redirects to that module.
 fn add_found(out: &mut Writer, found: &Found<'_>) -> Result<(), AllocError>
-    ensures { AppendsTokensIfOk result out.old out.new (found_member_tokens (found_view found.now)) }
+    ensures { AppendsTokensIfOk result out.old out.new
+        (found_member_tokens (found_view found.now)) }
 {
     match found {
         Found::Module => add_text(out, "found", "module"),

@@ -5,13 +5,11 @@ ghost use Rattle.symbols_paths.specs.DepAnswers.{DepEntryView};
 ghost use Rattle.symbols_paths.specs.PathTrees.{DefinitionView, PathLeaf};
 ghost use Rattle.symbols_paths.specs.Views.{star_import_view, reason_view};
 ghost use Rattle.symbols_answers.specs.Answers.{answer_paths};
-ghost use Rattle.symbols_queries.specs.AnswerViews.{decl_with_specifier};
-ghost use Rattle.symbols_queries.specs.AnswerViews.{definition_by_specifier_view};
-ghost use Rattle.symbols_queries.specs.AnswerViews.{unresolved_by_specifier_view};
-ghost use Rattle.symbols_queries.specs.AnswerViews.{path_tree_view, path_forest_view};
-ghost use Rattle.symbols_queries.specs.AnswerViews.{path_end_view, dep_entry_view};
+ghost use Rattle.symbols_queries.specs.Queries.{decl_with_specifier, definition_by_specifier_view};
+ghost use Rattle.symbols_queries.specs.Queries.{unresolved_by_specifier_view, path_tree_view, path_forest_view};
+ghost use Rattle.symbols_queries.specs.Queries.{path_end_view, dep_entry_view};
 ghost use Rattle.symbols_queries.specs.inner.AnswerViews.{path_link_view};
-ghost use Rattle.symq_core.specs.AnswerData.{answer_json};
+ghost use Rattle.symq_core.specs.Queries.{answer_json};
 ghost use Rattle.symq_core.specs.PathData.{decl_symbol_and_index_json, definition_json, unresolved_reason_str};
 ghost use Rattle.symq_core.specs.PathData.{unresolved_name_or_specifier, optional_scope_member};
 ghost use Rattle.symq_core.specs.PathData.{unresolved_json, leaf_json, link_members_after_next};
@@ -127,7 +125,8 @@ fn write_unresolved(
 
 /// Writes a path.
 fn write_path(out: &mut Writer, path: &PathBySpecifier<'_>) -> Result<(), AllocError>
-    ensures { AppendsValueTokensIfOk result out.old out.new (path_tree_json (path_tree_view path.now)) }
+    ensures { AppendsValueTokensIfOk result out.old out.new
+        (path_tree_json (path_tree_view path.now)) }
 {
     match path {
         PathBySpecifier::Link(link) => write_link(out, link),
@@ -145,7 +144,8 @@ struct OpenLink<'p, 'a> {
 
 /// Writes a link with the paths after it. The innermost of the open links is the last of `links`.
 fn write_link<'p, 'a>(out: &mut Writer, link: &'p PathLinkBySpecifier<'a>) -> Result<(), AllocError>
-    ensures { AppendsValueTokensIfOk result out.old out.new (path_tree_json (path_link_view link.now)) }
+    ensures { AppendsValueTokensIfOk result out.old out.new
+        (path_tree_json (path_link_view link.now)) }
 {
     let mut links: Vec<OpenLink<'p, 'a>> = Vec::new(*link.next.allocator());
     begin_link(out, link.module, link.decl)?;

@@ -3,8 +3,8 @@
 ghost use Rattle.std.specs.Prelude.{[]};
 ghost use Rattle.symbols_exports.specs.SharedNames.{NameWithExporters};
 ghost use Rattle.symbols_exports.specs.ExportViews.{ExportView};
-ghost use Rattle.symbols_queries.specs.AnswerViews.{exporter_view, shared_name_view};
-ghost use Rattle.symq_core.specs.AnswerData.{exporter_json, shared_name_json};
+ghost use Rattle.symbols_queries.specs.Queries.{exporter_view, shared_name_view};
+ghost use Rattle.symq_core.specs.Queries.{exporter_json, shared_name_json};
 
 use crate::write_json::{WriteJson, add_number, add_text, write_items};
 use json::Writer;

@@ -23,19 +23,24 @@ json_fields_of_kind Name.ExportDefaultDecl = (codes "decl", child) ∷ []
 json_fields_of_kind Name.ExportDefaultExpr = (codes "expr", child) ∷ []
 json_fields_of_kind Name.TsExportAssignment = (codes "expr", child) ∷ []
 json_fields_of_kind Name.ExportAll = (codes "src", text) ∷ []
-json_fields_of_kind Name.TsImportEqualsDecl = (codes "is_export", flag) ∷ (codes "id", child) ∷ (codes "entity", optional_child) ∷ (codes "external", optional_text) ∷ []
+json_fields_of_kind Name.TsImportEqualsDecl =
+    (codes "is_export", flag) ∷ (codes "id", child) ∷ (codes "entity", optional_child) ∷ (codes "external", optional_text) ∷ []
 json_fields_of_kind Name.ExprStmt = (codes "expr", child) ∷ []
 -- declarations and their parts
 json_fields_of_kind Name.ClassDecl = (codes "ident", child) ∷ (codes "class", child) ∷ []
 json_fields_of_kind Name.ClassExpr = (codes "ident", optional_child) ∷ (codes "class", child) ∷ []
-json_fields_of_kind Name.Class = (codes "type_params", optional_child) ∷ (codes "super_class", optional_child) ∷ (codes "super_type_params", optional_child) ∷ (codes "implements", children) ∷ (codes "body", children) ∷ []
+json_fields_of_kind Name.Class =
+    (codes "type_params", optional_child) ∷ (codes "super_class", optional_child) ∷ (codes "super_type_params", optional_child) ∷
+    (codes "implements", children) ∷ (codes "body", children) ∷ []
 json_fields_of_kind Name.FnDecl = (codes "ident", child) ∷ (codes "function", child) ∷ []
 json_fields_of_kind Name.FnExpr = (codes "ident", optional_child) ∷ (codes "function", child) ∷ []
-json_fields_of_kind Name.Function = (codes "type_params", optional_child) ∷ (codes "params", children) ∷ (codes "return_type", optional_child) ∷ (codes "body", optional_child) ∷ []
+json_fields_of_kind Name.Function =
+    (codes "type_params", optional_child) ∷ (codes "params", children) ∷ (codes "return_type", optional_child) ∷ (codes "body", optional_child) ∷ []
 json_fields_of_kind Name.VarDecl = (codes "decls", children) ∷ []
 json_fields_of_kind Name.UsingDecl = (codes "decls", children) ∷ []
 json_fields_of_kind Name.VarDeclarator = (codes "name", child) ∷ (codes "init", optional_child) ∷ []
-json_fields_of_kind Name.TsInterfaceDecl = (codes "id", child) ∷ (codes "type_params", optional_child) ∷ (codes "extends", children) ∷ (codes "body", children) ∷ []
+json_fields_of_kind Name.TsInterfaceDecl =
+    (codes "id", child) ∷ (codes "type_params", optional_child) ∷ (codes "extends", children) ∷ (codes "body", children) ∷ []
 json_fields_of_kind Name.TsTypeAliasDecl = (codes "id", child) ∷ (codes "type_params", optional_child) ∷ (codes "type_ann", child) ∷ []
 json_fields_of_kind Name.TsEnumDecl = (codes "id", child) ∷ (codes "members", children) ∷ []
 json_fields_of_kind Name.TsEnumMember = (codes "init", optional_child) ∷ []
@@ -45,16 +50,24 @@ json_fields_of_kind Name.TsModuleBlock = (codes "body", children) ∷ []
 -- members of classes and interfaces
 json_fields_of_kind Name.Constructor = (codes "params", children) ∷ (codes "body", optional_child) ∷ (codes "accessibility", accessibility) ∷ []
 json_fields_of_kind Name.TsParamProp = (codes "param", child) ∷ (codes "accessibility", accessibility) ∷ []
-json_fields_of_kind Name.ClassMethod = (codes "key", child) ∷ (codes "function", child) ∷ (codes "method_kind", method_kind) ∷ (codes "is_static", flag) ∷ (codes "accessibility", accessibility) ∷ []
-json_fields_of_kind Name.ClassProp = (codes "key", child) ∷ (codes "type_ann", optional_child) ∷ (codes "value", optional_child) ∷ (codes "is_static", flag) ∷ (codes "accessibility", accessibility) ∷ []
-json_fields_of_kind Name.AutoAccessor = (codes "key", child) ∷ (codes "type_ann", optional_child) ∷ (codes "value", optional_child) ∷ (codes "is_static", flag) ∷ (codes "accessibility", accessibility) ∷ []
+json_fields_of_kind Name.ClassMethod =
+    (codes "key", child) ∷ (codes "function", child) ∷ (codes "method_kind", method_kind) ∷ (codes "is_static", flag) ∷
+    (codes "accessibility", accessibility) ∷ []
+json_fields_of_kind Name.ClassProp =
+    (codes "key", child) ∷ (codes "type_ann", optional_child) ∷ (codes "value", optional_child) ∷ (codes "is_static", flag) ∷
+    (codes "accessibility", accessibility) ∷ []
+json_fields_of_kind Name.AutoAccessor =
+    (codes "key", child) ∷ (codes "type_ann", optional_child) ∷ (codes "value", optional_child) ∷ (codes "is_static", flag) ∷
+    (codes "accessibility", accessibility) ∷ []
 json_fields_of_kind Name.TsIndexSignature = (codes "params", children) ∷ (codes "type_ann", optional_child) ∷ (codes "is_static", flag) ∷ []
 json_fields_of_kind Name.TsCallSignatureDecl = (codes "type_params", optional_child) ∷ (codes "params", children) ∷ (codes "type_ann", optional_child) ∷ []
 json_fields_of_kind Name.TsConstructSignatureDecl = (codes "type_params", optional_child) ∷ (codes "params", children) ∷ (codes "type_ann", optional_child) ∷ []
 json_fields_of_kind Name.TsPropertySignature = (codes "key", child) ∷ (codes "computed", flag) ∷ (codes "type_ann", optional_child) ∷ []
 json_fields_of_kind Name.TsGetterSignature = (codes "key", child) ∷ (codes "computed", flag) ∷ (codes "type_ann", optional_child) ∷ []
 json_fields_of_kind Name.TsSetterSignature = (codes "key", child) ∷ (codes "computed", flag) ∷ (codes "param", child) ∷ []
-json_fields_of_kind Name.TsMethodSignature = (codes "key", child) ∷ (codes "computed", flag) ∷ (codes "type_params", optional_child) ∷ (codes "params", children) ∷ (codes "type_ann", optional_child) ∷ []
+json_fields_of_kind Name.TsMethodSignature =
+    (codes "key", child) ∷ (codes "computed", flag) ∷ (codes "type_params", optional_child) ∷ (codes "params", children) ∷
+    (codes "type_ann", optional_child) ∷ []
 -- types and what holds them
 json_fields_of_kind Name.TsTypeParamDecl = (codes "params", children) ∷ []
 json_fields_of_kind Name.TsTypeParam = (codes "constraint", optional_child) ∷ (codes "default", optional_child) ∷ []
@@ -77,7 +90,9 @@ json_fields_of_kind Name.Num = (codes "text", text) ∷ []
 json_fields_of_kind Name.BigInt = (codes "text", text) ∷ []
 json_fields_of_kind Name.Computed = (codes "expr", child) ∷ []
 json_fields_of_kind Name.Assign = (codes "plain", flag) ∷ (codes "left", child) ∷ (codes "right", child) ∷ []
-json_fields_of_kind Name.Arrow = (codes "type_params", optional_child) ∷ (codes "params", children) ∷ (codes "return_type", optional_child) ∷ (codes "is_block", flag) ∷ (codes "body", child) ∷ []
+json_fields_of_kind Name.Arrow =
+    (codes "type_params", optional_child) ∷ (codes "params", children) ∷ (codes "return_type", optional_child) ∷ (codes "is_block", flag) ∷
+    (codes "body", child) ∷ []
 -- patterns, other types, and all else
 json_fields_of_kind Name.BindingIdent = (codes "sym", identifier) ∷ (codes "type_ann", optional_child) ∷ []
 json_fields_of_kind Name.ArrayPat = (codes "elems", children) ∷ (codes "type_ann", optional_child) ∷ []

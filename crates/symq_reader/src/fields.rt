@@ -68,7 +68,8 @@ pub(crate) fn as_text<'a>(found: ObjectField<'_, 'a>) -> Option<&'a str>
 /// Returns a required string. It fails if the field is absent or no string, or if an allocation
 /// failed.
 pub(crate) fn text(alloc: Global, object: &Object<'_, '_>, key: &str) -> Result<String, FormatFault>
-    ensures { IsReadResult string_bytes result (required_value_under_key as_str key.now (object_data object.now)) }
+    ensures { IsReadResult string_bytes result
+        (required_value_under_key as_str key.now (object_data object.now)) }
 {
     let Some(found) = field(object, key).and_then(as_text) else {
         return Err(FormatFault::BadForm);
@@ -137,7 +138,8 @@ fn node_id(found: ObjectField<'_, '_>) -> Result<NodeId, FormatFault>
 
 /// Returns a required child. It fails if the field is absent or no number of 32 bits.
 pub(crate) fn child(object: &Object<'_, '_>, key: &str) -> Result<NodeId, FormatFault>
-    ensures { IsReadResult (λ n. n) result (required_value_under_key as_u32 key.now (object_data object.now)) }
+    ensures { IsReadResult (λ n. n) result
+        (required_value_under_key as_u32 key.now (object_data object.now)) }
 {
     match field(object, key) {
         Some(found) => node_id(found),
@@ -150,7 +152,8 @@ pub(crate) fn optional_child(
     object: &Object<'_, '_>,
     key: &str,
 ) -> Result<Option<NodeId>, FormatFault>
-    ensures { IsReadResult (λ n. n) result (optional_value_under_key as_u32 key.now (object_data object.now)) }
+    ensures { IsReadResult (λ n. n) result
+        (optional_value_under_key as_u32 key.now (object_data object.now)) }
 {
     match field(object, key) {
         Some(found) => Ok(Some(node_id(found)?)),
@@ -174,7 +177,8 @@ fn children_of_values(alloc: Global, items: &[Value<'_>]) -> Result<Vec<NodeId>,
 /// Returns the nodes with these numbers. It fails if a number doesn't fit 32 bits, or if an
 /// allocation failed.
 fn children_numbered(alloc: Global, numbers: &[u64]) -> Result<Vec<NodeId>, FormatFault>
-    ensures { IsReadResult (λ v. v.items) result (read_each_item as_u32 (whole_numbers numbers.now)) }
+    ensures { IsReadResult (λ v. v.items) result
+        (read_each_item as_u32 (whole_numbers numbers.now)) }
 {
     let mut children = Vec::with_capacity(alloc, numbers.len())?;
     for number in numbers {
@@ -190,7 +194,8 @@ pub(crate) fn children(
     object: &Object<'_, '_>,
     key: &str,
 ) -> Result<Vec<NodeId>, FormatFault>
-    ensures { IsReadResult (λ v. v.items) result (list_under_key as_u32 key.now (object_data object.now)) }
+    ensures { IsReadResult (λ v. v.items) result
+        (list_under_key as_u32 key.now (object_data object.now)) }
 {
     match field(object, key) {
         None => Ok(Vec::new(alloc)),
@@ -221,7 +226,8 @@ fn identifier_of_value<'a>(value: &Value<'a>) -> Option<(&'a str, u32)>
 /// Returns the name and the scope if a field is a list of the two.
 #[tactic(auto, using(crate::proofs::Entered::no_identifier))]
 fn named<'a>(found: ObjectField<'_, 'a>) -> Option<(&'a str, u32)>
-    ensures { option_map (λ p. (p.0.now, p.1)) result ≡ as_identifier (object_field_data found.entry) }
+    ensures { option_map (λ p. (p.0.now, p.1)) result
+        ≡ as_identifier (object_field_data found.entry) }
 {
     match found {
         ObjectField::Value(value) => identifier_of_value(value),

@@ -32,7 +32,8 @@ fn esm(alloc: Global, value: &Value<'_>) -> Result<RawModuleKind, FormatFault>
 /// Returns the fields of a module whose `kind` is this keyword. It fails if the keyword or a field
 /// is wrong, or if an allocation failed.
 fn kind_by_tag(alloc: Global, kind: &str, value: &Value<'_>) -> Result<RawModuleKind, FormatFault>
-    ensures { IsReadResult raw_module_kind_view result (module_kind_by_tag kind.now (value_data value.now)) }
+    ensures { IsReadResult raw_module_kind_view result
+        (module_kind_by_tag kind.now (value_data value.now)) }
 {
     match kind {
         "esm" => esm(alloc, value),
@@ -137,7 +138,8 @@ fn resolutions(alloc: Global, value: &Value<'_>) -> Result<Vec<RawResolution>, F
 
 /// Returns the graph that a JSON value describes. Each number in the value has to be whole.
 pub(crate) fn graph(alloc: Global, value: &Value<'_>) -> Result<RawGraph, FormatFault>
-    ensures { IsReadResult raw_graph_view result (require_object graph_of_json_fields (value_data value.now)) }
+    ensures { IsReadResult raw_graph_view result
+        (require_object graph_of_json_fields (value_data value.now)) }
 {
     if !matches!(value, Value::Object(_)) {
         return Err(FormatFault::BadForm);

@@ -21,7 +21,8 @@ use symbols_ast::tree::Kind;
 
 /// Returns a kind that was read, as one that its enum has.
 fn some_kind<T: Drop>(read: Result<T, FormatFault>) -> Result<Option<T>, FormatFault>
-    ensures { (view : T → KindNameAndFieldValues) (there : Option KindNameAndFieldValues) → IsReadResult view read there
+    ensures { (view : T → KindNameAndFieldValues) (there : Option KindNameAndFieldValues)
+        → IsReadResult view read there
         → IsReadResult (option_map view) result (option_map Some there) }
 {
     match read {
@@ -34,7 +35,8 @@ fn some_kind<T: Drop>(read: Result<T, FormatFault>) -> Result<Option<T>, FormatF
 /// kinds next, for speed alone. It fails if the name or a field is wrong, or if an allocation
 /// failed.
 fn kind_by_tag(alloc: Global, kind: &str, object: &Object<'_, '_>) -> Result<Kind, FormatFault>
-    ensures { IsReadResult kind_name_and_field_values result (node_kind_by_tag kind.now (object_data object.now)) }
+    ensures { IsReadResult kind_name_and_field_values result
+        (node_kind_by_tag kind.now (object_data object.now)) }
 {
     if kind == "TsTypeAnn" {
         return Ok(Kind::Ty(tys::ts_type_ann(object)?));

@@ -13,7 +13,8 @@ use crate::faults::FormatFault;
 use json::Value;
 
 fn if_some<'v, 'a>(value: &'v Value<'a>) -> Option<&'v Value<'a>>
-    ensures { option_map (λ found. value_data found.now) result ≡ none_if_null (value_data value.now) }
+    ensures { option_map (λ found. value_data found.now) result
+        ≡ none_if_null (value_data value.now) }
 {
     match value {
         Value::Null => None,
@@ -61,7 +62,8 @@ pub(crate) fn list<'v, 'a>(
     value: &'v Value<'a>,
     key: &str,
 ) -> Result<Option<&'v [Value<'a>]>, FormatFault>
-    ensures { IsReadResult optional_items_data result (array_items_under_key key.now (value_data value.now)) }
+    ensures { IsReadResult optional_items_data result
+        (array_items_under_key key.now (value_data value.now)) }
 {
     match field(value, key) {
         None => Ok(None),

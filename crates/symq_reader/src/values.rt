@@ -22,8 +22,8 @@ pub fn read_value<'a>(
     bytes: &'a [u8],
     scratch: &'a mut Scratch,
 ) -> Result<Option<Value<'a>>, AllocError>
-    ensures { IfOk result
-        (λ found. MatchOption found (IfSome (json_of_bytes bytes.now) (λ d. has_no_object_and_whole_numbers d ≡ false))
+    ensures { IfOk result (λ found. MatchOption found
+        (IfSome (json_of_bytes bytes.now) (λ d. has_no_object_and_whole_numbers d ≡ false))
         (λ value. json_of_bytes bytes.now ≡ Some (value_data value))) }
 {
     let Ok(text) = simdutf8::compat::from_utf8(bytes) else {

@@ -10,7 +10,8 @@ use symq_reader::{FormatFault, read_graph, read_query_list, read_value};
 /// Returns the text of a graph with one module, whose tree has this node alone.
 fn graph_text(alloc: Global, kind: &str, fields: &str) -> Result<String, AllocError> {
     format!(in alloc;
-        r#"{{"modules":[{{"specifier":"","kind":"esm","text":"","tree":{{"nodes":[{{"kind":"{kind}","range":[0,0],{fields}}}]}}}}]}}"#
+        r#"{{"modules":[{{"specifier":"","kind":"esm","text":"","tree":
+            {{"nodes":[{{"kind":"{kind}","range":[0,0],{fields}}}]}}}}]}}"#
     )
 }
 

@@ -1,7 +1,8 @@
 // Which specifiers a change of files touches: those under which a graph has something else afterwards.
 import path from 'node:path';
 
-import { isFile } from '../folder/files.js';
+import { Failure } from '../failure.js';
+import { isFile, isFolder } from '../folder/files.js';
 import { isCode } from '../language.js';
 import { changedBetween, statesOf } from '../inputs/states.js';
 import { sourcesBefore } from './before.js';
@@ -38,6 +39,8 @@ async function changedByLack(sources, files, temporary) {
  */
 export async function changedByFiles(sources, words, temporary, warn) {
   const files = [...new Set(words.map((it) => fileOf(sources, it)))];
+  const directory = files.find((it) => isFolder(it));
+  if (directory !== undefined) throw new Failure(`${sources.files.below(directory) || '.'} is a directory: name the files in it that changed, or --since REV`, 2);
   const gone = files.filter((it) => !isFile(it));
   const specifiers = await changedByLack(sources, gone.filter((it) => isCode(it) || it.endsWith('.json')), temporary);
   for (const file of files) {

@@ -53,11 +53,11 @@ function publicName(folder, entry, { name, chain }, leaves) {
 /** @param {Folder} folder @param {string[]} [entries] @returns {Promise<PublicName[]>} by entries, and in the order of the modules; those behind `export =` last */
 export async function publicNames(folder, entries = folder.entries) {
   const all = await folder.exports(entries);
-  const exports = all.flatMap((it, i) => it.exports.map((row) => ({ entry: entries[i], row })));
-  const leaves = await folder.leaves(exports.map(({ row }) => [row.module, row.symbol]));
+  const leaves = await folder.leaves(all.flatMap(({ exports }) => exports.map((row) => /** @type {[string, number]} */ ([row.module, row.symbol]))));
   const members = await Promise.all(entries.map((it) => equalsMembers(folder, it)));
+  let next = 0;
   return entries.flatMap((entry, k) => [
-    ...exports.flatMap(({ entry: of, row }, i) => (of === entry ? [publicName(folder, entry, row, leaves[i])] : [])),
+    ...all[k].exports.map((row) => publicName(folder, entry, row, leaves[next++])),
     ...members[k].filter(({ name }) => all[k].exports.every((it) => it.name !== name)).map((it) => publicName(folder, entry, { ...it, chain: [] }, it.leaves)),
   ]);
 }
@@ -214,8 +214,8 @@ async function paged(run, folder) {
   const of = [titleOf(folder), identityOf('dot')];
   const kept = folder.kept(of);
   if (kept) {
-    report.found.rest(kept.findings, (it) => it);
-    report.body = kept.page;
+    report.found.rest(kept, (it) => it);
+    report.body = folder.keptBytes();
     return report.found.status;
   }
   const before = report.found.all.length;
@@ -225,7 +225,7 @@ async function paged(run, folder) {
     run.warn(line);
   };
   const status = await reported({ ...run, warn }, folder);
-  if (isWhole) folder.keep({ findings: report.found.all.slice(before), page: report.body }, of);
+  if (isWhole) folder.keep(report.found.all.slice(before), of, /** @type {Buffer} */ (report.body));
   return status;
 }
 

@@ -8,7 +8,7 @@ import { endOf, endText } from '../folder/ends.js';
 import { openMembers } from '../folder/members.js';
 import { endsOf, visitPaths } from '../folder/paths.js';
 import { Places, decoded } from '../folder/text.js';
-import { languageOf } from '../language.js';
+import { isCode, isJavaScript, languageOf } from '../language.js';
 import { columns, placeText } from '../output.js';
 import { TreeNode, nodesFrom, nodesText } from '../tree/node.js';
 
@@ -24,13 +24,22 @@ export function spotOf(word, command = 'where') {
   return { file: found[1], line: Number(found[2]), column: found[3] ? Number(found[3]) : null };
 }
 
+/** @param {import('../folder/sources.js').Sources} sources @param {string} file absolute @returns {string | null} why it isn't read, where it is there and could be */
+function whyUnread(sources, file) {
+  if (!isCode(file) || !sources.files.holds(file) || !sources.files.has(file)) return null;
+  if (sources.files.isSkipped(file)) return '--skip leaves it out';
+  return isJavaScript(file) && sources.hasTypes(file) ? 'a file with its types is read in its place (--js reads both)' : null;
+}
+
 /** @param {Folder} folder @param {string} file @returns {import('../folder/sources.js').Module} */
-export function moduleOf(folder, file) {
-  for (const base of [folder.sources.folder, process.cwd()]) {
-    const found = folder.sources.modules.get(folder.sources.specifierOf(path.resolve(base, file)));
+export function moduleOf({ sources }, file) {
+  const files = [sources.folder, process.cwd()].map((it) => path.resolve(it, file));
+  for (const it of files) {
+    const found = sources.modules.get(sources.specifierOf(it));
     if (found) return found;
   }
-  throw new Failure(`no such module: ${file} in ${folder.sources.folder}`, 2);
+  const why = files.map((it) => whyUnread(sources, it)).find((it) => it !== null);
+  throw new Failure(why ? `${file} isn't read: ${why}` : `no such module: ${file} in ${sources.folder}`, 2);
 }
 
 /**

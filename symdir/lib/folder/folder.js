@@ -72,6 +72,17 @@ export class Folder {
     }
   }
 
+  /** @param {Folder} before as it was read before this one: what was made of modules that are what they were is taken over */
+  takeOver({ sources: { modules }, places, tables }) {
+    for (const [specifier, { file, parsed }] of this.sources.modules) {
+      const old = modules.get(specifier);
+      if (old?.parsed !== parsed || old.file !== file) continue;
+      const [place, table] = [places.get(specifier), tables.get(specifier)];
+      if (place?.isOf(parsed.hash)) this.places.set(specifier, place);
+      if (table) this.tables.set(specifier, table);
+    }
+  }
+
   /** @param {import('./begin.js').Asked} asked as it was said when all began: it is given the graph */
   open({ symq, strict }) {
     const parts = partsOf(this.sources);
@@ -99,9 +110,14 @@ export class Folder {
     return this.results?.get(this.graph, this.allOf(of));
   }
 
-  /** @param {unknown} value for the next run on the same graph @param {unknown} [of] what it depends on besides that */
-  keep(value, of) {
-    this.keeping = Promise.all([this.keeping, this.results?.put(this.graph, this.allOf(of), value)]).then(() => {});
+  /** @returns {Buffer} the bytes that were kept with it */
+  keptBytes() {
+    return this.results?.found?.more ?? Buffer.alloc(0);
+  }
+
+  /** @param {unknown} value for the next run on the same graph @param {unknown} [of] what it depends on besides that @param {Buffer} [bytes] kept as they are */
+  keep(value, of, bytes = Buffer.alloc(0)) {
+    this.keeping = Promise.all([this.keeping, this.results?.put(this.graph, this.allOf(of), value, bytes)]).then(() => {});
   }
 
   /** @param {string} name @param {Buffer[]} pieces of the graph @returns {string} the file that has it */
@@ -195,7 +211,7 @@ export class Folder {
   declarationsOf({ module, start, end }) {
     const all = this.sources.modules.get(module)?.parsed.declarations ?? [];
     const places = (this.tableOf(module, all).get(start) ?? []).filter((i) => all[i + 1] === end);
-    const first = places.filter((i, k) => places.findIndex((it) => all[it + 3] === all[i + 3]) === k);
+    const first = places.length < 2 ? places : places.filter((i, k) => places.findIndex((it) => all[it + 3] === all[i + 3]) === k);
     return first.map((i) => ({ kind: KINDS[all[i + 2]], name: all[i + 3], isPrivate: (all[i + 4] & PRIVATE) !== 0, isExported: (all[i + 4] & EXPORTED) !== 0 }));
   }
 

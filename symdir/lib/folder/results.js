@@ -47,13 +47,27 @@ function maker() {
   return (made ??= hashOf(own.map((it) => `${it}\n${readFileSync(it, 'latin1')}`).join('\n')));
 }
 
+/** What stands at the end of what is whole. */
+const END = Buffer.from('\nend\n');
+
+/** @param {Buffer} bytes @param {number} count @returns {Buffer[]} so many lines, and what stands behind them; fewer where these aren't all there */
+function linesOf(bytes, count) {
+  const found = [];
+  let at = 0;
+  for (let end = bytes.indexOf(10); end >= 0 && found.length < count; end = bytes.indexOf(10, at)) {
+    found.push(bytes.subarray(at, end));
+    at = end + 1;
+  }
+  return [...found, bytes.subarray(at)];
+}
+
 export class Results {
   /** @param {Kept} kept @param {string} what is kept, in a word @param {string} by what made it */
   constructor(kept, what, by) {
     this.kept = kept;
     this.what = what;
     this.by = by;
-    /** @type {{ of: string, text: string } | null} */
+    /** @type {{ of: string, text: string, more: Buffer } | null} */
     this.found = null;
   }
 
@@ -71,8 +85,9 @@ export class Results {
   /** @returns {boolean} whether there is one of the graph that was asked last */
   read() {
     try {
-      const [by, of, text] = readFileSync(this.file(this.kept.graph), 'utf8').split('\n');
-      if (by === this.by && text !== undefined) this.found = { of, text };
+      const [by, of, text, rest] = linesOf(readFileSync(this.file(this.kept.graph)), 3);
+      const isWhole = by.toString() === this.by && rest?.subarray(-END.length).equals(END);
+      if (isWhole) this.found = { of: of.toString(), text: text.toString(), more: rest.subarray(0, -END.length) };
     } catch {
       // there is none
     }
@@ -90,13 +105,13 @@ export class Results {
     }
   }
 
-  /** @param {string} graph its name @param {unknown} of all else that it depends on @param {unknown} value @returns {Promise<void>} */
-  async put(graph, of, value) {
+  /** @param {string} graph its name @param {unknown} of all else that it depends on @param {unknown} value @param {Buffer} more bytes that are kept as they are @returns {Promise<void>} */
+  async put(graph, of, value, more) {
     const file = this.file(graph);
     const part = partOf(file);
     try {
       await mkdir(path.dirname(file), { recursive: true });
-      await writeFile(part, `${this.by}\n${JSON.stringify(of)}\n${JSON.stringify(value)}`);
+      await writeFile(part, Buffer.concat([Buffer.from(`${this.by}\n${JSON.stringify(of)}\n${JSON.stringify(value)}\n`), more, END]));
       await rename(part, file);
     } catch {
       // a cache folder that can't be written costs time alone

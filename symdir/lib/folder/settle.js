@@ -18,7 +18,7 @@ function isUnsettledEnd(end) {
 
 /** @param {Entry} entry @returns {boolean} whether a path ends that isn't what TypeScript makes of it yet */
 export function isUnsettled(entry) {
-  return endsOf([entry]).some(isUnsettledEnd);
+  return 'next' in entry ? endsOf([entry]).some(isUnsettledEnd) : isUnsettledEnd(entry);
 }
 
 /** @param {Entry} entry that lacks a name @returns {string[]} the name and the parts behind it, among which symq has it where they are looked for in a whole module */

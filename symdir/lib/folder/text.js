@@ -2,6 +2,7 @@
 import { readFileSync } from 'node:fs';
 
 import { wellFormed } from '../wellformed.js';
+import { hashOf } from './kept.js';
 
 /** @param {Buffer} bytes @returns {string} of UTF-8, or of UTF-16 where its mark says so; well formed, without a mark */
 export function decoded(bytes) {
@@ -14,6 +15,8 @@ export class Places {
   /** @param {string} text */
   constructor(text) {
     this.bytes = Buffer.from(text);
+    /** @type {string | undefined} of the text, where that is asked for */
+    this.hash = undefined;
     /** @type {number[]} */
     this.starts = [0];
     for (let at = this.bytes.indexOf(10); at >= 0; at = this.bytes.indexOf(10, at + 1)) this.starts.push(at + 1);
@@ -26,6 +29,12 @@ export class Places {
     } catch {
       return new Places('');
     }
+  }
+
+  /** @param {string} hash of a file's bytes @returns {boolean} whether these places are surely those of that file: it may have been another one when it was read for them */
+  isOf(hash) {
+    this.hash ??= hashOf(this.bytes);
+    return this.hash === hash;
   }
 
   /** @param {number} at @returns {{ line: number, column: number }} both from 1, the column in UTF-16 units as editors count */

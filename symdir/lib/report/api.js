@@ -40,7 +40,7 @@ function markdown(answer, findings, isWhole, baseline) {
   return document([...entryBlocks(answer, isWhole), list.length > 0 ? [`**${counted(list.length, 'finding')}**`, '', ...list] : [], baselineMarkdown(baseline)]);
 }
 
-/** @param {Run} run @param {Folder} folder @param {Answer} answer @param {Promise<string>} drawn the picture of a page @returns {Promise<string>} in the format that the run reports in */
+/** @param {Run} run @param {Folder} folder @param {Answer} answer @param {Promise<string>} drawn the picture of a page @returns {Promise<string | Buffer>} in the format that the run reports in */
 export async function apiReport(run, folder, answer, drawn) {
   const { report, options } = run;
   if (report.format === 'markdown') return markdown(answer, report.found.all, options.all ?? false, report.baselineLines());

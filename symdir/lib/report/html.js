@@ -111,16 +111,9 @@ function controls({ names, entries }) {
 </form>`;
 }
 
-/** @param {Run} run @param {Folder} folder @param {Answer} answer @param {Promise<string>} drawn the section with the picture @returns {Promise<string>} */
-export async function page(run, folder, answer, drawn) {
-  const { entries, names } = answer;
-  const sorted = [...names].sort((a, b) => byName(a, b) || (a.entry < b.entry ? -1 : 1));
-  const rows = sorted.map((it) => nameHtml(it, entries.length === 1)).join('\n');
-  const code = script();
-  const style = part('page.css');
+/** @param {string} title @param {Answer} answer @param {string} style @param {string} code of the script @returns {string} all before what the page is about */
+function headOf(title, { entries, names }, style, code) {
   const hash = (/** @type {string} */ text) => `'sha256-${createHash('sha256').update(text).digest('base64')}'`;
-  const title = escaped(titleOf(folder));
-  const picture = await drawn;
   return `<!doctype html>
 <html lang="en">
 <head>
@@ -136,17 +129,29 @@ export async function page(run, folder, answer, drawn) {
 <h1>${title}</h1>
 <p class="about">${counted(names.length, 'public name')} of ${entries.length > 3 ? counted(entries.length, 'entry point') : entries.map((it) => `<code>${escaped(it)}</code>`).join(', ')}</p>
 </header>
-${controls(answer)}
+`;
+}
+
+/** @param {Run} run @param {Folder} folder @param {Answer} answer @param {Promise<string>} drawn the section with the picture @returns {Promise<Buffer>} */
+export async function page(run, folder, answer, drawn) {
+  const { entries, names } = answer;
+  const { all } = run.report.found;
+  const sorted = [...names].sort((a, b) => byName(a, b) || (a.entry < b.entry ? -1 : 1));
+  const rows = sorted.map((it) => `${nameHtml(it, entries.length === 1)}\n`);
+  const code = script();
+  const start = `${headOf(escaped(titleOf(folder)), answer, part('page.css'), code)}${controls(answer)}
 <main>
-${findingsHtml(run.report.found.all)}
-<section aria-label="Public names">${run.report.found.all.length > 0 ? '<h2>Public names</h2>' : ''}<ul id="names">
-${rows}
-</ul><p id="none" hidden>No name matches.</p></section>
+${findingsHtml(all)}
+<section aria-label="Public names">${all.length > 0 ? '<h2>Public names</h2>' : ''}<ul id="names">
+`;
+  const end = `</ul><p id="none" hidden>No name matches.</p></section>
 ${restHtml(answer)}
-${picture}
+${await drawn}
 </main>
 <script type="module">${code}</script>
 </body>
 </html>
 `;
+  // each row on its own: most have characters of ASCII alone, and are encoded faster
+  return Buffer.concat([start, ...(rows.length > 0 ? rows : ['\n']), end].map((it) => Buffer.from(it)));
 }

@@ -37,7 +37,7 @@ export class Reporting {
     this.format = /** @type {Format[]} */ (FORMATS).find((it) => it !== /** @type {any} */ ('json') && options[it]);
     this.found = new Found();
     this.summary = '';
-    /** @type {string | null} */
+    /** @type {string | Buffer | null} */
     this.body = null;
     /** @type {string[]} lines for the file that `--out` names */
     this.held = [];
@@ -79,7 +79,7 @@ export class Reporting {
     return last !== undefined && isFolder(last) ? path.resolve(last) : process.cwd();
   }
 
-  /** @param {number} status @returns {Promise<string>} */
+  /** @param {number} status @returns {Promise<string | Buffer>} */
   async rendered(status) {
     if (this.body !== null) return this.body;
     const { found: { all }, options, summary } = this;

@@ -8,6 +8,7 @@ const PIECES = new RegExp(`(/\\*[^]*?\\*/)|(\\n)|//.*|#!.*|[^\\S\\n]+|((?:${STRI
 
 /** @param {string} text that ends where a declaration starts @param {boolean} isFirst whether nothing precedes it @param {boolean} isListed whether a comment on the line of what precedes it belongs to it @returns {string | null} */
 function lastComment(text, isFirst, isListed) {
+  if (!text.includes('/**')) return null;
   let [found, counts] = [/** @type {string | null} */ (null), isFirst || isListed];
   for (const [, comment, newline, code] of text.matchAll(PIECES)) {
     if (newline) counts = true;
@@ -41,7 +42,7 @@ export class Docs {
   /** @param {(module: string) => Signatures} signatures */
   constructor(signatures) {
     this.signatures = signatures;
-    /** @type {Map<string, Int32Array>} by module the ends of all nodes, in order */
+    /** @type {Map<string, Uint8Array>} by module 1 at the end of each node */
     this.ends = new Map();
   }
 
@@ -49,16 +50,11 @@ export class Docs {
   endBefore(module, start) {
     let ends = this.ends.get(module);
     if (!ends) {
-      ends = Int32Array.from(this.signatures(module).tree.nodes, (it) => it.range[1]).sort();
-      this.ends.set(module, ends);
+      const { bytes, tree: { nodes } } = this.signatures(module);
+      this.ends.set(module, (ends = new Uint8Array(bytes.length + 1)));
+      for (const { range } of nodes) ends[range[1]] = 1;
     }
-    let [low, high] = [0, ends.length];
-    while (low < high) {
-      const middle = (low + high) >> 1;
-      if (ends[middle] <= start) low = middle + 1;
-      else high = middle;
-    }
-    return low === 0 ? 0 : ends[low - 1];
+    return Math.max(0, ends.lastIndexOf(1, start));
   }
 
   /** @param {Definition} it @returns {string} empty if it has none */

@@ -9,9 +9,15 @@ const PIECES = new RegExp(`(${STRING})|(?://.*|/\\*[^]*?\\*/|\\s)+`, 'g');
 /** Spaces and commas that say nothing. */
 const IDLE = new RegExp(`(${STRING})|(?<=[([<]) | (?=[)\\]>,;:?])|,(?= ?[)\\]>])`, 'g');
 
+/** Of a text in which none of these stands both leave all as it is. */
+const HAS_PIECES = /["'`/]|[^\S ]|  /;
+const HAS_IDLE = /["'`]|[([<] | [)\]>,;:?]|, ?[)\]>]/;
+
 /** @param {string} text @returns {string} in one line, without comments */
 export function oneLine(text) {
-  return text.replace(PIECES, (_, string) => string ?? ' ').replace(IDLE, (_, string) => string ?? '').replace(/[;,\s]+$/, '').trim();
+  const plain = HAS_PIECES.test(text) ? text.replace(PIECES, (_, string) => string ?? ' ') : text;
+  const short = HAS_IDLE.test(plain) ? plain.replace(IDLE, (_, string) => string ?? '') : plain;
+  return (/[;,\s]$/.test(short) ? short.replace(/[;,\s]+$/, '') : short).trim();
 }
 
 /** These say nothing of how something is used. */
@@ -27,20 +33,20 @@ export class Signatures {
   constructor(tree) {
     this.tree = tree;
     this.bytes = Buffer.from(tree.text);
-    /** @type {Map<number, number>} by its start the first node that has it */
-    this.first = new Map();
+    /** By its start the first node that has it, but for the program; 0 where none has. */
+    this.first = new Uint32Array(this.bytes.length + 1);
     /** The next node of the same start; 0 behind the last. */
     this.next = new Uint32Array(tree.nodes.length);
     for (let i = tree.nodes.length - 1; i > 0; i--) {
-      const [start] = tree.nodes[i].range;
-      this.next[i] = this.first.get(start) ?? 0;
-      this.first.set(start, i);
+      const start = tree.nodes[i].range[0];
+      this.next[i] = this.first[start];
+      this.first[start] = i;
     }
   }
 
   /** @param {number} start @param {number} end @returns {number} the node with the range, of several the outermost; -1 if there is none */
   nodeAt(start, end) {
-    for (let at = this.first.get(start) ?? 0; at > 0; at = this.next[at]) if (this.tree.nodes[at].range[1] === end) return at;
+    for (let at = this.first[start] ?? 0; at > 0; at = this.next[at]) if (this.tree.nodes[at].range[1] === end) return at;
     return -1;
   }
 

@@ -1,4 +1,6 @@
 // The public surface of a folder: each public name and its members, with what is written of their signatures.
+import { setImmediate } from 'node:timers/promises';
+
 import { endOf } from '../folder/ends.js';
 import { equalsMembers } from '../folder/equals.js';
 import { isDefinition } from '../folder/folder.js';
@@ -56,6 +58,8 @@ class Gathering {
     this.namespaces = new Map();
     /** @type {WeakMap<Item, Map<string, Set<number>>>} by module the nodes that declare it */
     this.nodes = new WeakMap();
+    /** Whether namespaces of some module export by another name, or of elsewhere. */
+    this.hasBlocks = [...folder.sources.modules.values()].some((it) => it.parsed.blocks.length > 0);
   }
 
   /** @param {string} module @returns {Tree} without nodes where it isn't read */
@@ -75,13 +79,35 @@ class Gathering {
     return found;
   }
 
+  /**
+   * Reads trees while symq works, as long as that takes.
+   * @template T
+   * @param {Promise<T>} asked
+   * @param {Iterable<string>} modules whose trees are wanted later, most likely
+   * @returns {Promise<T>}
+   */
+  async readUntil(asked, modules) {
+    let isThere = false;
+    const end = () => void (isThere = true);
+    asked.then(end, end);
+    for (const it of modules) {
+      // what symq says is heard here
+      await setImmediate();
+      if (isThere) break;
+      this.signatures(it);
+    }
+    return asked;
+  }
+
   /** @param {Definition[]} definitions @returns {string} of overloads all but the one with the body */
   signatureOf(definitions) {
-    const found = definitions.flatMap(({ module, start, end }) => {
+    const found = [];
+    for (const { module, start, end } of definitions) {
       const all = this.signatures(module);
       const at = all.declarationAt(start, end);
-      return at === null ? [] : [{ text: all.of(at), hasBody: hasBody(all.tree, at) }];
-    });
+      if (at !== null) found.push({ text: all.of(at), hasBody: hasBody(all.tree, at) });
+    }
+    if (found.length === 1) return found[0].text;
     const open = found.filter((it) => it.hasBody === false);
     const some = open.length > 0 ? found.filter((it) => it.hasBody !== true) : found;
     return some.map((it) => it.text).filter((it) => it !== '').join(' & ');
@@ -126,12 +152,18 @@ class Gathering {
   /** @param {Item} of @param {Member} member @param {Definition[]} definitions @returns {Item[]} none where it is hidden */
   member(of, { module, symbol, above }, definitions) {
     const owners = this.nodesOf(of).get(module) ?? new Set();
-    const own = definitions.filter((it) => it.module === module && it.symbol === symbol).map((it) => ({ it, between: this.between(it, owners) }));
-    const shown = own.flatMap(({ it, between }) => (between === null ? [] : [it]));
-    if (shown.length === 0) return [];
+    /** @type {Definition[]} */
+    const shown = [];
+    /** @type {string[] | null} */
+    let between = null;
+    for (const it of definitions) {
+      const names = it.module === module && it.symbol === symbol ? this.between(it, owners) : null;
+      if (names !== null) shown.push(it);
+      between ??= names;
+    }
+    if (between === null) return [];
     const [full, prefix] = [symbol, above].map((it) => `${this.names.of(module)[it]}`);
     const kind = joined(shown.map((it) => this.folder.kindOf(it)));
-    const between = own.find((it) => it.between !== null)?.between ?? [];
     const name = of.name + memberName(withNames(full.slice(prefix.length), between));
     return [{ ...of, name, kind, files: [this.folder.short(module)], signature: this.signatureOf(shown), definitions: shown }];
   }
@@ -156,6 +188,7 @@ class Gathering {
 
   /** @param {Item} item @returns {{ module: string, path: string[] }[]} what blocks of the namespace export by another name, or of elsewhere: those names, with that of the namespace before each */
   aliases(item) {
+    if (!this.hasBlocks) return [];
     const modules = [...new Set(item.definitions?.map((it) => it.module))];
     return modules.flatMap((module) => {
       const blocks = this.folder.sources.modules.get(module)?.parsed.blocks ?? [];
@@ -207,6 +240,13 @@ function hasBody({ nodes }, at) {
   return nodes[inner].body !== undefined;
 }
 
+/** @param {Folder} folder @returns {Set<string>} the modules that entries lead to, with them */
+function reachedOf({ entries, sources: { modules, resolutions } }) {
+  const found = new Set(entries);
+  for (const from of found) for (const to of resolutions.get(from)?.values() ?? []) if (modules.has(to)) found.add(to);
+  return found;
+}
+
 /** @param {Folder} folder @returns {Promise<Map<string, Map<string, Export>>>} what each module exports, by name */
 async function exportsOf(folder) {
   const modules = [...new Set([...folder.sources.modules.keys(), ...folder.entries])];
@@ -227,12 +267,12 @@ async function exportsOf(folder) {
  */
 
 class Levels {
-  /** @param {Folder} folder @param {Map<string, Map<string, Export>>} exports of each module */
-  constructor(folder, exports) {
+  /** @param {Folder} folder @param {Map<string, Map<string, Export>>} exports of each module @param {Gathering} all */
+  constructor(folder, exports, all) {
     this.folder = folder;
     this.exports = exports;
-    this.names = new Names(folder);
-    this.all = new Gathering(folder, this.names);
+    this.names = all.names;
+    this.all = all;
     this.words = new TypeWords(folder, exports, (module) => this.all.treeOf(module));
   }
 
@@ -271,7 +311,8 @@ class Levels {
     const asked = await this.folder.leaves(wanted.map(({ symbol }) => symbol));
     const leaves = wanted.map((it, i) => it.leaves ?? asked[i]);
     const definitions = leaves.map((it) => this.folder.exported(it.filter(isDefinition)));
-    await this.names.read(definitions.flat().map((it) => it.module));
+    const modules = definitions.flat().map((it) => it.module);
+    await this.all.readUntil(this.names.read(modules), new Set(modules));
     // of a namespace that exports itself by another name members aren't listed again
     const isAgain = definitions.map((it, i) => it.some((one) => wanted[i].within.includes(symbolKey(one))));
     const members = definitions.map((it, i) => (isAgain[i] ? [] : this.all.symbolsOf(it)));
@@ -309,7 +350,8 @@ export async function surfaceOf(folder) {
 
 /** @param {Folder} folder @returns {Promise<{ items: Item[], signatures: (module: string) => Signatures }>} as surfaceOf, with the trees that it is read from */
 export async function surfaceAndTrees(folder) {
-  const levels = new Levels(folder, await exportsOf(folder));
+  const all = new Gathering(folder, new Names(folder));
+  const levels = new Levels(folder, await all.readUntil(exportsOf(folder), reachedOf(folder)), all);
   /** @type {Item[]} */
   const found = [];
   let wanted = (await Promise.all(folder.entries.map((it) => levels.entryNames(it)))).flat();

@@ -1,7 +1,8 @@
 // One text to one tree.
 import { Converter, K, hasModifier, ts } from './converter.js';
 import { declaredNames, hoistBody } from './scopes.js';
-import { TreeText, numbered } from './node.js';
+import { TreeNode, numbered } from './node.js';
+import { TreeText } from './treetext.js';
 import { expect } from './typescript.js';
 import { overNewer } from './newer.js';
 import { item } from './items.js';
@@ -9,7 +10,7 @@ import { moduleName } from './names.js';
 import { wellFormed } from './offsets.js';
 
 /** @typedef {import('./converter.js').Options} Options */
-/** @typedef {import('./node.js').TreeNode} TreeNode */
+/** @typedef {import('./nodes.js').Made} Made */
 
 /**
  * @typedef {object} Fault
@@ -103,7 +104,7 @@ function specify(c, { exportClause: clause }) {
   for (const it of clause.elements) c.specified.add(moduleName(c, it.propertyName ?? it.name));
 }
 
-/** @param {Converter} c @param {(item: TreeNode) => void} add is given each item of the module, in order, when it is made */
+/** @param {Converter} c @param {(item: Made) => void} add is given each item of the module, in order, when it is made, and is there for that long alone */
 function items(c, add) {
   const list = c.file.statements;
   hoistBody(list, c.scope);
@@ -114,13 +115,14 @@ function items(c, add) {
     const made = item(c, it, isAmbient);
     if (Array.isArray(made)) made.forEach(add);
     else add(made);
+    c.nodes.clear();
   }));
 }
 
 /** @param {Converter} c @param {Record<string, import('./node.js').Field>} [fields] @returns {TreeNode} */
-function program(c, fields) {
+function program(c, fields = {}) {
   const list = c.file.statements;
-  return list.length === 0 ? c.at('Program', 0, 0) : c.at('Program', c.start(list[0]), list[list.length - 1].end, fields);
+  return list.length === 0 ? new TreeNode('Program', 0, 0, {}) : new TreeNode('Program', c.byte(c.start(list[0])), c.byte(list[list.length - 1].end), fields);
 }
 
 /** @param {import('typescript').SourceFile} file @param {number} at @param {string} text @returns {Fault} */
@@ -164,7 +166,7 @@ export function nodesOf(name, source, options) {
   if (!c) return { text, fault, nodes: null, ...NOTHING };
   /** @type {TreeNode[]} */
   const body = [];
-  items(c, (it) => body.push(it));
+  items(c, (it) => body.push(c.nodes.tree(it)));
   if (c.unnamed !== null) return { text, fault: faultOf(c, false), nodes: null, ...NOTHING };
   const nodes = numbered(program(c, { body }));
   return { text, nodes, fault: faultOf(c, nodes === null), ...notedBy(c) };
@@ -187,7 +189,7 @@ export function convert(name, source, options) {
   const { text, fault: first, c } = begun(name, source, options);
   if (!c) return withoutTree(text, first);
   const made = new TreeText();
-  items(c, (it) => made.add(it));
+  items(c, (it) => made.add(c.nodes, it));
   const fault = faultOf(c, made.isTooDeep);
   if (c.unnamed !== null) return withoutTree(text, fault);
   return { text, tree: fault ? null : made.whole(program(c)), free: () => made.free(), nodes: fault ? 0 : made.count, fault, ...notedBy(c) };

@@ -1,12 +1,13 @@
 // What stands while one text becomes a tree: the parsed text, the scope at hand, and what is noted on the way.
 import { K, startOf, ts } from './typescript.js';
 import { byteOffsets } from './offsets.js';
-import { TreeNode } from './node.js';
+import { Nodes, formOf, nameNumber } from './nodes.js';
 import { EXPORTED, KINDS, PRIVATE } from '../kinds.js';
 import { MODULE_SCOPE, Scope, textOf } from './scopes.js';
 
 /** @typedef {import('typescript').Node} Node */
-/** @typedef {import('./node.js').Field} Field */
+/** @typedef {import('./nodes.js').Given} Given */
+/** @typedef {import('./nodes.js').Made} Made */
 
 /**
  * @typedef {object} Options
@@ -38,20 +39,12 @@ const NUMBER_OF = new Map(KINDS.map((it, i) => [it, i]));
 
 /** Scopes in the bodies of functions are counted from here on, so that the others have their numbers with bodies and without. */
 const BODY_SCOPES = 2 ** 31;
-const SPACE = 32;
+/** What a unit of ASCII is: a space or the end of a line, or what no space and no comment begins with. */
+const [SPACE, PLAIN] = [1, 2];
+const UNITS = Uint8Array.from({ length: 128 }, (_, i) => (/[ \t\n\r]/.test(String.fromCharCode(i)) ? SPACE : /[\w"'`$([{+*-]/.test(String.fromCharCode(i)) ? PLAIN : 0));
 
-/** @param {number} unit of UTF-16 @returns {boolean} whether it is one of A to Z, a to z and _ */
-function isLetter(unit) {
-  return unit > 64 && unit < 123 && (unit < 91 || unit > 94) && unit !== 96;
-}
-
-/** @param {(TreeNode | null | undefined | false | '')[]} nodes of which the others are taken out @returns {TreeNode[]} those that there are */
-function there(nodes) {
-  let count = 0;
-  for (let i = 0; i < nodes.length; i++) if (nodes[i]) nodes[count++] = nodes[i];
-  nodes.length = count;
-  return /** @type {TreeNode[]} */ (nodes);
-}
+const [OTHER, TYPE, IDENT] = ['Other', 'Type', 'Ident'].map(formOf);
+const [CHILDREN, SYM, ANNOTATION] = ['children', 'sym', 'type_ann'].map(nameNumber);
 
 export class Converter {
   /**
@@ -66,6 +59,7 @@ export class Converter {
     this.marks = marks;
     this.options = options;
     this.byte = byteOffsets(text);
+    this.nodes = new Nodes();
     this.scope = new Scope(MODULE_SCOPE, null);
     this.scopes = MODULE_SCOPE;
     this.bodyScopes = BODY_SCOPES;
@@ -99,10 +93,12 @@ export class Converter {
   start(node) {
     const { pos } = node;
     if (pos === node.end) return pos;
-    // mostly a word stands there, or a space before it, and no comment
-    if (isLetter(this.source.charCodeAt(pos))) return pos;
-    if (this.source.charCodeAt(pos) === SPACE && isLetter(this.source.charCodeAt(pos + 1))) return pos + 1;
-    return startOf(node, this.file);
+    const { source } = this;
+    let at = pos;
+    let unit = source.charCodeAt(at);
+    while (unit < 128 && UNITS[unit] === SPACE) unit = source.charCodeAt(++at);
+    // mostly no comment stands there
+    return unit < 128 && UNITS[unit] === PLAIN ? at : startOf(node, this.file);
   }
 
   /** @param {number} from in UTF-16 units @returns {number} where the next `import` stands in the text; infinite where there is none */
@@ -115,24 +111,40 @@ export class Converter {
     return this.importAt;
   }
 
-  /** @param {string} kind @param {number} start @param {number} end both in UTF-16 units @param {Record<string, Field>} [fields] */
-  at(kind, start, end, fields = {}) {
-    return new TreeNode(kind, this.byte(start), this.byte(end), fields);
+  /** @param {string} kind @param {number} start @param {number} end both in UTF-16 units @param {Record<string, Given>} fields */
+  at(kind, start, end, fields) {
+    return this.nodes.add(kind, this.byte(start), this.byte(end), fields);
   }
 
-  /** @param {string} kind @param {Node} node whose range it has @param {Record<string, Field>} [fields] */
-  node(kind, node, fields = {}) {
-    return new TreeNode(kind, this.byte(this.start(node)), this.byte(node.end), fields);
+  /** @param {string} kind @param {Node} node whose range it has @param {Record<string, Given>} fields */
+  node(kind, node, fields) {
+    return this.nodes.add(kind, this.byte(this.start(node)), this.byte(node.end), fields);
   }
 
-  /** @param {Node} node @param {(TreeNode | null | undefined | false | '')[]} children */
+  /** @param {Node} node @param {(Made | null | undefined | false | '')[]} children */
   other(node, children) {
-    return this.node('Other', node, { children: there(children) });
+    return this.holding(OTHER, node, children);
   }
 
-  /** @param {Node} node @param {(TreeNode | null | undefined | false | '')[]} children */
+  /** @param {Node} node @param {(Made | null | undefined | false | '')[]} children */
   type(node, children) {
-    return this.node('Type', node, { children: there(children) });
+    return this.holding(TYPE, node, children);
+  }
+
+  /** @param {import('./nodes.js').Form} form @param {Node} node @param {(Made | null | undefined | false | '')[]} children */
+  holding(form, node, children) {
+    const { nodes } = this;
+    const made = nodes.begin(form, this.byte(this.start(node)), this.byte(node.end));
+    if (children.length > 0) nodes.list(CHILDREN, children);
+    return nodes.end(made);
+  }
+
+  /** @param {import('./nodes.js').Form} form @param {number} start @param {number} end both in UTF-16 units @param {number} name of its one field @param {Made} value */
+  single(form, start, end, name, value) {
+    const { nodes } = this;
+    const made = nodes.begin(form, this.byte(start), this.byte(end));
+    nodes.node(name, value);
+    return nodes.end(made);
   }
 
   /**
@@ -222,24 +234,35 @@ export class Converter {
     return [text, this.scopeOf(text, inType)];
   }
 
+  /** @param {import('./nodes.js').Form} form @param {import('typescript').Identifier} name @param {boolean} inType @param {Made | null} [annotation] its type */
+  named(form, name, inType, annotation = null) {
+    const { nodes } = this;
+    const text = textOf(name);
+    const made = nodes.begin(form, this.byte(this.start(name)), this.byte(name.end));
+    nodes.symbol(SYM, text, this.scopeOf(text, inType));
+    if (annotation !== null) nodes.node(ANNOTATION, annotation);
+    return nodes.end(made);
+  }
+
   /** @param {import('typescript').Identifier} name @param {boolean} [inType] */
   ident(name, inType = this.inType) {
-    return this.node('Ident', name, { sym: this.symbolName(name, inType) });
+    return this.named(IDENT, name, inType);
   }
 
   /**
    * Notes that a declaration of the kind has the range, and where its name stands.
    * @param {string} kind one of KINDS
-   * @param {TreeNode} made
+   * @param {Made} made
    * @param {Node | undefined} name
    * @param {boolean} [isPrivate]
    * @param {boolean} [isExported] by itself, and not by its name elsewhere
-   * @returns {TreeNode} what was made
+   * @returns {Made} what was made
    */
   declares(kind, made, name, isPrivate = false, isExported = false) {
-    const place = name ? this.byte(this.start(name)) : made.start;
+    const start = this.nodes.startOf(made);
+    const place = name ? this.byte(this.start(name)) : start;
     const flags = (isPrivate ? PRIVATE : 0) | (isExported ? EXPORTED : 0);
-    this.declarations.push(made.start, made.end, /** @type {number} */ (NUMBER_OF.get(kind)), place, flags);
+    this.declarations.push(start, this.nodes.endOf(made), /** @type {number} */ (NUMBER_OF.get(kind)), place, flags);
     return made;
   }
 

@@ -8,7 +8,7 @@ import { arrow, body, classParts, functionExpression, functionNode } from './fun
 import { hoistFunction } from './scopes.js';
 
 /** @typedef {import('./converter.js').Converter} Converter */
-/** @typedef {import('./node.js').TreeNode} TreeNode */
+/** @typedef {import('./nodes.js').Made} Made */
 /** @typedef {import('typescript').Expression} Expression */
 
 /** A chain of more operators than this is kept flat, since it leans to the left and a node's depth has a limit. */
@@ -51,7 +51,7 @@ function object(c, node) {
   return c.other(node, parts);
 }
 
-/** @param {Converter} c @param {Exclude<import('typescript').ObjectLiteralElementLike, import('typescript').PropertyAssignment>} it @returns {TreeNode[]} */
+/** @param {Converter} c @param {Exclude<import('typescript').ObjectLiteralElementLike, import('typescript').PropertyAssignment>} it @returns {Made[]} */
 function objectProperty(c, it) {
   if (ts.isShorthandPropertyAssignment(it)) {
     const value = it.objectAssignmentInitializer;
@@ -66,7 +66,7 @@ function objectProperty(c, it) {
   ]))];
 }
 
-/** @param {Converter} c @param {import('typescript').ElementAccessExpression} node @returns {TreeNode} the brackets and what is in them */
+/** @param {Converter} c @param {import('typescript').ElementAccessExpression} node @returns {Made} the brackets and what is in them */
 function brackets(c, node) {
   let start = skipSpace(c, (node.questionDotToken ?? node.expression).end);
   if (c.source[start] !== '[') start = c.start(node.argumentExpression);
@@ -126,7 +126,7 @@ function jsxAttributes(c, attributes) {
   return parts;
 }
 
-/** @param {Converter} c @param {import('typescript').Node} it @returns {TreeNode | null} */
+/** @param {Converter} c @param {import('typescript').Node} it @returns {Made | null} */
 function jsxChild(c, it) {
   if (ts.isJsxExpression(it)) return it.expression ? expression(c, it.expression) : null;
   return ts.isJsxText(it) ? null : expression(c, /** @type {Expression} */ (it));
@@ -162,7 +162,7 @@ function list(c, node) {
   return c.other(node, parts);
 }
 
-/** @type {Record<number, (c: Converter, node: any) => TreeNode>} */
+/** @type {Record<number, (c: Converter, node: any) => Made>} */
 const EXPRESSIONS = {
   [K.Identifier]: (c, node) => c.ident(node),
   [K.StringLiteral]: string,
@@ -209,7 +209,7 @@ if (SatisfiesExpression !== undefined) {
   EXPRESSIONS[SatisfiesExpression] = (c, node) => c.other(node, [expression(c, node.expression), type(c, node.type)]);
 }
 
-/** @param {Converter} c @param {Expression} node @returns {TreeNode} `this`, `null`, regular expressions and their like hold nothing */
+/** @param {Converter} c @param {Expression} node @returns {Made} `this`, `null`, regular expressions and their like hold nothing */
 export function expression(c, node) {
   const make = EXPRESSIONS[node.kind];
   return make ? make(c, node) : c.other(node, []);

@@ -9,7 +9,7 @@ import { statements } from './statements.js';
 import { referencesIn } from './references.js';
 
 /** @typedef {import('./converter.js').Converter} Converter */
-/** @typedef {import('./node.js').TreeNode} TreeNode */
+/** @typedef {import('./nodes.js').Made} Made */
 
 /** @param {Converter} c @param {import('typescript').Block} node of a function, whose scope is open */
 export function body(c, node) {
@@ -61,15 +61,15 @@ function accessibility(member) {
   return hasModifier(member, K.PrivateKeyword) ? 'private' : null;
 }
 
-/** @param {Converter} c @param {import('typescript').Node} node */
-function decorators(c, node) {
-  return decoratorsOf(node).map((it) => c.other(it, [expression(c, it.expression)]));
+/** @param {Converter} c @param {import('typescript').Decorator} it */
+function decorator(c, it) {
+  return c.other(it, [expression(c, it.expression)]);
 }
 
 /** @param {Converter} c @param {import('typescript').ClassLikeDeclaration} node the superclass, its arguments, what is implemented */
 function heritageOf(c, node) {
-  const found = { super_class: /** @type {TreeNode | null} */ (null), super_type_params: /** @type {TreeNode | null} */ (null),
-    implements: /** @type {TreeNode[]} */ ([]) };
+  const found = { super_class: /** @type {Made | null} */ (null), super_type_params: /** @type {Made | null} */ (null),
+    implements: /** @type {Made[]} */ ([]) };
   for (const clause of node.heritageClauses ?? []) {
     for (const it of clause.types) {
       if (clause.token === K.ExtendsKeyword && !found.super_class) {
@@ -81,23 +81,22 @@ function heritageOf(c, node) {
   return found;
 }
 
-/** @param {Converter} c @param {import('typescript').ClassElement} member @returns {TreeNode[]} decorators of it and of its parameters, and it */
-function memberWithDecorators(c, member) {
-  const parts = decorators(c, member);
+/** @param {Converter} c @param {import('typescript').ClassElement} member @param {Made[]} parts are given the decorators of it and of its parameters, and it */
+function memberWithDecorators(c, member, parts) {
+  for (const it of decoratorsOf(member)) parts.push(decorator(c, it));
   const { parameters: list } = /** @type {{ parameters?: readonly import('typescript').Node[] }} */ (/** @type {unknown} */ (member));
-  for (const it of list ?? []) parts.push(...decorators(c, it));
+  if (list) for (const parameter of list) for (const it of decoratorsOf(parameter)) parts.push(decorator(c, it));
   parts.push(classMember(c, member));
-  return parts;
 }
 
 /**
  * @param {Converter} c
  * @param {import('typescript').ClassLikeDeclaration} node
  * @param {number} start @param {number} end of what stands after the name
- * @returns {{ ident: TreeNode | null, class: TreeNode }}
+ * @returns {{ ident: Made | null, class: Made }}
  */
 export function classParts(c, node, start, end) {
-  const first = decorators(c, node);
+  const parts = decoratorsOf(node).map((it) => decorator(c, it));
   return c.within((scope) => {
     hoistTypeParameters(node, scope);
     if (ts.isClassExpression(node) && node.name) scope.add(textOf(node.name));
@@ -105,8 +104,8 @@ export function classParts(c, node, start, end) {
     const ident = node.name ? c.ident(node.name, false) : null;
     const type_params = typeParametersOf(c, node.typeParameters);
     const above = heritageOf(c, node);
-    const members = node.members.flatMap((it) => memberWithDecorators(c, it));
-    return { ident, class: c.at('Class', start, end, { type_params, ...above, body: [...first, ...members] }) };
+    for (const it of node.members) memberWithDecorators(c, it, parts);
+    return { ident, class: c.at('Class', start, end, { type_params, ...above, body: parts }) };
   });
 }
 
@@ -136,7 +135,7 @@ function constructorParameter(c, it) {
 function method(c, m) {
   const name = key(c, m.name);
   const made = functionNode(c, m, c.start(m), m.end);
-  if (name.kind === 'PrivateName') return c.other(m, [name, made]);
+  if (ts.isPrivateIdentifier(m.name)) return c.other(m, [name, made]);
   const kind = ts.isGetAccessor(m) ? 'getter' : ts.isSetAccessor(m) ? 'setter' : 'method';
   const access = accessibility(m);
   return c.declares(kind, c.node('ClassMethod', m, {
@@ -154,14 +153,15 @@ function propertyNode(c, m) {
   const name = key(c, m.name);
   const type_ann = annotationOf(c, m.type);
   const value = m.initializer ? expression(c, m.initializer) : null;
-  if (name.kind === 'PrivateName' && !isAccessor) return c.other(m, [name, type_ann, value]);
+  const isHidden = ts.isPrivateIdentifier(m.name);
+  if (isHidden && !isAccessor) return c.other(m, [name, type_ann, value]);
   const access = accessibility(m);
   const fields = { key: name, type_ann, value, is_static: hasModifier(m, K.StaticKeyword), accessibility: access };
   return c.declares(isAccessor ? 'accessor' : 'property', c.node(isAccessor ? 'AutoAccessor' : 'ClassProp', m, fields), m.name,
-    access === 'private' || name.kind === 'PrivateName');
+    access === 'private' || isHidden);
 }
 
-/** @type {Record<number, (c: Converter, member: any) => TreeNode>} */
+/** @type {Record<number, (c: Converter, member: any) => Made>} */
 const MEMBERS = {
   [K.Constructor]: constructorNode,
   [K.MethodDeclaration]: method,

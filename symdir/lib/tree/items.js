@@ -8,7 +8,7 @@ import { expression } from './expressions.js';
 import { declaration, interfaceNode, statement } from './statements.js';
 
 /** @typedef {import('./converter.js').Converter} Converter */
-/** @typedef {import('./node.js').TreeNode} TreeNode */
+/** @typedef {import('./nodes.js').Made} Made */
 
 /** @param {Converter} c @param {import('typescript').Identifier} local @param {string} name @param {import('typescript').Node} node */
 function takesLocal(c, local, name, node) {
@@ -103,7 +103,7 @@ function exportAssignment(c, it) {
   return c.declares(it.isExportEquals ? 'export =' : 'default', c.node(kind, it, { expr: expression(c, it.expression) }), undefined);
 }
 
-/** @param {Converter} c @param {import('typescript').ImportEqualsDeclaration} it of a module without `export =` @param {string} src @returns {TreeNode[]} an import of all of it, and an export where `export` stands before it */
+/** @param {Converter} c @param {import('typescript').ImportEqualsDeclaration} it of a module without `export =` @param {string} src @returns {Made[]} an import of all of it, and an export where `export` stands before it */
 function requiredNamespace(c, it, src) {
   const all = c.declares('namespace', c.node('ImportNamespace', it, { local: c.ident(it.name, false) }), it.name);
   const made = c.node('Import', it, { specifiers: [all], src });
@@ -111,7 +111,7 @@ function requiredNamespace(c, it, src) {
   return [made, c.node('ExportNamed', it, { specifiers: [c.node('ExportSpecifier', it.name, { orig: c.ident(it.name, false) })] })];
 }
 
-/** @param {Converter} c @param {import('typescript').ImportEqualsDeclaration} it @returns {TreeNode | TreeNode[]} */
+/** @param {Converter} c @param {import('typescript').ImportEqualsDeclaration} it @returns {Made | Made[]} */
 function importEquals(c, it) {
   const from = it.moduleReference;
   const fields = { is_export: hasModifier(it, K.ExportKeyword), id: c.ident(it.name, false), type_only: it.isTypeOnly };
@@ -151,20 +151,20 @@ function exported(c, it) {
   const canBeDefault = ts.isFunctionDeclaration(it) || ts.isClassDeclaration(it) || ts.isInterfaceDeclaration(it);
   const before = c.declarations.length;
   const decl = isDefault && canBeDefault ? defaultDeclaration(c, it, inner) : declaration(c, it, inner);
-  if (!decl || decl.kind === 'UsingDecl') return c.other(it, []);
+  if (!decl || c.nodes.kindOf(decl) === 'UsingDecl') return c.other(it, []);
   const made = c.at(isDefault && canBeDefault ? 'ExportDefaultDecl' : 'ExportDecl', start, it.end, { decl });
   if (c.declarations.length > before && !ts.isVariableStatement(it)) declaresAgain(c, made);
   return made;
 }
 
-/** @param {Converter} c @param {TreeNode} made has with its `export` the kind and the name that were noted last */
+/** @param {Converter} c @param {Made} made has with its `export` the kind and the name that were noted last */
 function declaresAgain(c, made) {
   const all = c.declarations;
   const { length } = all;
-  all.push(made.start, made.end, all[length - 3], all[length - 2], all[length - 1]);
+  all.push(c.nodes.startOf(made), c.nodes.endOf(made), all[length - 3], all[length - 2], all[length - 1]);
 }
 
-/** @type {Record<number, (c: Converter, it: any) => TreeNode | TreeNode[]>} */
+/** @type {Record<number, (c: Converter, it: any) => Made | Made[]>} */
 const ITEMS = {
   [K.ImportDeclaration]: importNode,
   [K.ExportDeclaration]: exportNode,
@@ -180,12 +180,12 @@ function isAmbientExport(it) {
     || ts.isTypeAliasDeclaration(it) || ts.isEnumDeclaration(it);
 }
 
-/** @param {Converter} c @param {import('typescript').Statement} it @param {boolean} isAmbient whether declarations are exported without a word @returns {TreeNode | TreeNode[]} */
+/** @param {Converter} c @param {import('typescript').Statement} it @param {boolean} isAmbient whether declarations are exported without a word @returns {Made | Made[]} */
 export function item(c, it, isAmbient) {
   const make = ITEMS[it.kind];
   if (make) return make(c, it);
   if (hasModifier(it, K.ExportKeyword)) return exported(c, it);
   const made = statement(c, it);
-  if (!isAmbient || !isAmbientExport(it) || made.kind === 'Other') return made;
+  if (!isAmbient || !isAmbientExport(it) || c.nodes.kindOf(made) === 'Other') return made;
   return c.node('ExportDecl', it, { decl: made });
 }

@@ -5,7 +5,7 @@ import { wellFormed } from './offsets.js';
 import { expression } from './expressions.js';
 
 /** @typedef {import('./converter.js').Converter} Converter */
-/** @typedef {import('./node.js').TreeNode} TreeNode */
+/** @typedef {import('./nodes.js').Made} Made */
 
 /** @param {Converter} c @param {import('typescript').StringLiteralLike} node */
 export function string(c, node) {
@@ -32,7 +32,7 @@ export function plainName(c, node) {
   return c.node('IdentName', node, { name: textOf(node) });
 }
 
-/** @param {Converter} c @param {import('typescript').PropertyName} name of a class's member or in an object @returns {TreeNode} */
+/** @param {Converter} c @param {import('typescript').PropertyName} name of a class's member or in an object @returns {Made} */
 export function key(c, name) {
   if (ts.isIdentifier(name)) return plainName(c, name);
   if (ts.isPrivateIdentifier(name)) return privateName(c, name);
@@ -50,7 +50,7 @@ export function elementKey(c, name) {
   return { key: key(c, name), computed: false };
 }
 
-/** @param {Converter} c @param {import('typescript').EntityName} node @param {boolean} [inType] @returns {TreeNode} a dotted name */
+/** @param {Converter} c @param {import('typescript').EntityName} node @param {boolean} [inType] @returns {Made} a dotted name */
 export function entity(c, node, inType) {
   if (ts.isIdentifier(node)) return c.ident(node, inType);
   return c.node('TsQualifiedName', node, { left: entity(c, node.left, inType), right: textOf(node.right) });

@@ -1,5 +1,4 @@
 // Nodes of a tree as `docs/GRAPH.md` has them, and their numbers.
-import { TreeWriter } from './treewriter.js';
 
 /** @typedef {string | number | boolean | null | undefined | [string, number] | TreeNode | TreeNode[]} Field */
 
@@ -17,32 +16,13 @@ export class TreeNode {
     this.end = end;
     this.fields = fields;
     this.number = 0;
-    /** How many nodes there are from here on down, and how many lie below one another at most. */
-    this.size = 1;
-    this.height = 1;
-    for (const key in fields) {
-      const value = fields[key];
-      if (typeof value === 'object' && value !== null) this.measure(value);
-    }
-  }
-
-  /** @param {[string, number] | TreeNode | TreeNode[]} value of a field */
-  measure(value) {
-    if (!Array.isArray(value)) this.hold(value);
-    else if (typeof value[0] === 'object') for (let i = 0; i < value.length; i++) this.hold(/** @type {TreeNode} */ (value[i]));
-  }
-
-  /** @param {TreeNode} node */
-  hold(node) {
-    this.size += node.size;
-    if (node.height >= this.height) this.height = node.height + 1;
   }
 }
 
 /** The deepest that a node may lie. */
 const MAX_DEPTH = 4096;
 /** From this depth on what a node holds is left out at the next place where the form allows it. */
-const CUT_DEPTH = MAX_DEPTH - 96;
+export const CUT_DEPTH = MAX_DEPTH - 96;
 
 /** @param {TreeNode} node @param {TreeNode[]} list is given the nodes that it holds, in the order of the fields */
 function pushChildren(node, list) {
@@ -109,57 +89,21 @@ export function nodesFrom(rows) {
   return nodes;
 }
 
-/** @param {TreeNode[]} nodes numbered @returns {string} the JSON text of the list */
-export function nodesText(nodes) {
-  const writer = new TreeWriter();
-  for (const it of nodes) writer.node(it);
-  // each has a comma before it
-  return `[${Buffer.concat(writer.pieces()).subarray(1)}]`;
+/** @param {Field} value @returns {boolean} whether it is written */
+function isThere(value) {
+  return value !== null && value !== undefined && value !== false && !(Array.isArray(value) && value.length === 0);
 }
 
-/** The text of a tree that is made item by item. */
-export class TreeText {
-  constructor() {
-    /** How many nodes there are, with the program. */
-    this.count = 1;
-    this.isTooDeep = false;
-    /** @type {number[]} the numbers of the items */
-    this.body = [];
-    this.writer = new TreeWriter();
-  }
+/** @param {Field} value @returns {unknown} with the numbers of nodes */
+function written(value) {
+  if (value instanceof TreeNode) return value.number;
+  return Array.isArray(value) && value[0] instanceof TreeNode ? value.map((it) => /** @type {TreeNode} */ (it).number) : value;
+}
 
-  /** @param {TreeNode} item of the program */
-  add(item) {
-    if (this.isTooDeep) return;
-    const count = item.height + 1 < CUT_DEPTH ? this.addTree(item) : this.addDeep(item);
-    this.body.push(this.count);
-    this.count += count;
-  }
-
-  /** @param {TreeNode} item @returns {number} how many nodes it has */
-  addTree(item) {
-    item.number = this.count;
-    this.writer.tree(item);
-    return item.size;
-  }
-
-  /** @param {TreeNode} item of which parts may have to be left out @returns {number} how many nodes it has then */
-  addDeep(item) {
-    const nodes = numbered(item, this.count, 1);
-    this.isTooDeep = nodes === null;
-    for (const it of nodes ?? []) this.writer.node(it);
-    return nodes?.length ?? 0;
-  }
-
-  /** @param {TreeNode} program without its items @returns {Buffer[]} the JSON text of the list of all nodes, in pieces */
-  whole(program) {
-    const body = this.body.length > 0 ? `,"body":[${this.body.join(',')}]` : '';
-    const start = `[{"kind":"Program","range":[${program.start},${program.end}]${body}}`;
-    return [Buffer.from(start), ...this.writer.pieces(), Buffer.from(']')];
-  }
-
-  /** Has the memory of the text used for another tree, once it is copied. */
-  free() {
-    this.writer.free();
-  }
+/** @param {TreeNode[]} nodes numbered @returns {string} the JSON text of the list */
+export function nodesText(nodes) {
+  return JSON.stringify(nodes.map(({ kind, start, end, fields }) => {
+    const rows = Object.entries(fields).filter(([, it]) => isThere(it));
+    return { kind, range: [start, end], ...Object.fromEntries(rows.map(([key, it]) => [key, written(it)])) };
+  }));
 }

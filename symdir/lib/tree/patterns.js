@@ -2,20 +2,23 @@
 import { K, ts } from './converter.js';
 import { key } from './names.js';
 import { annotationOf } from './types.js';
+import { formOf } from './nodes.js';
 import { expression } from './expressions.js';
 
 /** @typedef {import('./converter.js').Converter} Converter */
-/** @typedef {import('./node.js').TreeNode} TreeNode */
+/** @typedef {import('./nodes.js').Made} Made */
+
+const BINDING_IDENT = formOf('BindingIdent');
 
 /**
  * @param {Converter} c
  * @param {import('typescript').BindingName} name
  * @param {import('typescript').TypeNode} [type] that stands after it
- * @returns {TreeNode}
+ * @returns {Made}
  */
 export function binding(c, name, type) {
   const type_ann = annotationOf(c, type);
-  if (ts.isIdentifier(name)) return c.node('BindingIdent', name, { sym: c.symbolName(name, false), type_ann });
+  if (ts.isIdentifier(name)) return c.named(BINDING_IDENT, name, false, type_ann);
   const end = type ? type.end : name.end;
   if (ts.isObjectBindingPattern(name)) {
     return c.at('ObjectPat', c.start(name), end, { props: name.elements.map((it) => property(c, it)), type_ann });
@@ -38,7 +41,7 @@ function property(c, it) {
   return c.node('AssignPatProp', it, { key: binding(c, it.name), value: it.initializer ? expression(c, it.initializer) : null });
 }
 
-/** @param {Converter} c @param {import('typescript').ParameterDeclaration} it @param {boolean} [isSignature] @returns {TreeNode} */
+/** @param {Converter} c @param {import('typescript').ParameterDeclaration} it @param {boolean} [isSignature] @returns {Made} */
 export function parameter(c, it, isSignature = false) {
   if (it.dotDotDotToken) {
     return c.at('RestPat', c.start(it.dotDotDotToken), it.end, { arg: binding(c, it.name), type_ann: annotationOf(c, it.type) });
@@ -56,7 +59,7 @@ export function parameters(c, list, isSignature) {
 
 /** @param {Converter} c @param {import('typescript').Identifier} node that is assigned to */
 export function assignedName(c, node) {
-  return c.node('BindingIdent', node, { sym: c.symbolName(node, false) });
+  return c.named(BINDING_IDENT, node, false);
 }
 
 /** @param {Converter} c @param {import('typescript').ObjectLiteralElementLike} it */
@@ -76,13 +79,13 @@ export function targetParts(c, node) {
   return node.elements.filter((it) => it.kind !== K.OmittedExpression).map((it) => target(c, it));
 }
 
-/** @param {Converter} c @param {import('typescript').Expression} it that is assigned to @returns {TreeNode} a pattern */
+/** @param {Converter} c @param {import('typescript').Expression} it that is assigned to @returns {Made} a pattern */
 export function target(c, it) {
   if (ts.isIdentifier(it)) return assignedName(c, it);
   if (ts.isSpreadElement(it)) return c.node('RestPat', it, { arg: target(c, it.expression) });
   if (ts.isObjectLiteralExpression(it)) {
     const props = targetParts(c, it);
-    return props.some((part) => part.kind === 'Other') ? c.other(it, props) : c.node('ObjectPat', it, { props });
+    return props.some((part) => c.nodes.kindOf(part) === 'Other') ? c.other(it, props) : c.node('ObjectPat', it, { props });
   }
   if (ts.isArrayLiteralExpression(it)) return c.node('ArrayPat', it, { elems: targetParts(c, it) });
   if (ts.isBinaryExpression(it) && it.operatorToken.kind === K.EqualsToken) {

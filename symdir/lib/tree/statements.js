@@ -9,7 +9,7 @@ import { expression } from './expressions.js';
 import { item } from './items.js';
 
 /** @typedef {import('./converter.js').Converter} Converter */
-/** @typedef {import('./node.js').TreeNode} TreeNode */
+/** @typedef {import('./nodes.js').Made} Made */
 
 /** Of what stands in a declaration file or behind `declare`, as the parser marks it. */
 const AMBIENT = /** @type {Record<string, any>} */ (ts.NodeFlags).Ambient;
@@ -98,20 +98,32 @@ function exportedBy(c, it) {
 
 /** @param {Converter} c @param {import('typescript').ModuleBlock} block notes what its statements without a declaration export, where there are any */
 function noteBlock(c, { flags, statements }) {
-  const exported = statements.flatMap((it) => exportedBy(c, it));
   const isListed = statements.some(ts.isExportDeclaration);
+  if (!isListed && !statements.some(ts.isImportEqualsDeclaration)) return;
+  const exported = statements.flatMap((it) => exportedBy(c, it));
   if (exported.length === 0 && !isListed) return;
   const own = statements.filter((it) => !hasModifier(it, K.ExportKeyword)).flatMap(declaredNames);
   const hidden = (flags & AMBIENT) === 0 || !isListed ? [] : own.filter((it) => !exported.includes(it));
   c.blocks.push({ name: c.path.join('.'), exported, hidden });
 }
 
-/** @param {Converter} c @param {import('typescript').ModuleBlock | import('typescript').ModuleDeclaration} body @returns {TreeNode} */
+/** @param {Converter} c @param {readonly import('typescript').Statement[]} list of a namespace */
+function items(c, list) {
+  /** @type {Made[]} */
+  const all = [];
+  for (const it of list) {
+    const made = item(c, it, false);
+    if (Array.isArray(made)) all.push(...made);
+    else all.push(made);
+  }
+  return all;
+}
+
+/** @param {Converter} c @param {import('typescript').ModuleBlock | import('typescript').ModuleDeclaration} body @returns {Made} */
 function namespacePart(c, body) {
   if (ts.isModuleBlock(body)) {
     noteBlock(c, body);
-    const items = () => body.statements.flatMap((it) => item(c, it, false));
-    return c.node('TsModuleBlock', body, { body: c.exporting(exportsWithoutWord(body), items) });
+    return c.node('TsModuleBlock', body, { body: c.exporting(exportsWithoutWord(body), () => items(c, body.statements)) });
   }
   const { name } = /** @type {{ name: import('typescript').Identifier }} */ (/** @type {unknown} */ (body));
   return c.declares('namespace', c.at('TsNamespaceDecl', c.start(name), body.end, {
@@ -119,7 +131,7 @@ function namespacePart(c, body) {
   }), name);
 }
 
-/** @type {Record<number, [string, (c: Converter, it: any, start: number) => TreeNode | null]>} */
+/** @type {Record<number, [string, (c: Converter, it: any, start: number) => Made | null]>} */
 const DECLARATIONS = {
   [K.VariableStatement]: ['', (c, it, start) => variables(c, it.declarationList, start, it.end, c.isExported(it))],
   [K.FunctionDeclaration]: ['function', (c, it, start) => {
@@ -142,7 +154,7 @@ const DECLARATIONS = {
  * @param {Converter} c
  * @param {import('typescript').Statement} it
  * @param {number} start
- * @returns {TreeNode | null} null where it is none
+ * @returns {Made | null} null where it is none
  */
 export function declaration(c, it, start) {
   const [kind, make] = DECLARATIONS[it.kind] ?? [];
@@ -209,7 +221,7 @@ function guarded(c, it) {
   return c.other(it, [expression(c, it.expression), statement(c, it.statement)]);
 }
 
-/** @type {Record<number, (c: Converter, it: any) => TreeNode>} */
+/** @type {Record<number, (c: Converter, it: any) => Made>} */
 const STATEMENTS = {
   [K.ExpressionStatement]: (c, it) => c.node('ExprStmt', it, { expr: expression(c, it.expression) }),
   [K.Block]: (c, it) => block(c, it, it.statements),
@@ -228,7 +240,7 @@ const STATEMENTS = {
   [K.TryStatement]: tryNode,
 };
 
-/** @param {Converter} c @param {import('typescript').Statement} it @returns {TreeNode} */
+/** @param {Converter} c @param {import('typescript').Statement} it @returns {Made} */
 export function statement(c, it) {
   if (DECLARATIONS[it.kind]) return declaration(c, it, c.start(it)) ?? c.other(it, []);
   const make = STATEMENTS[it.kind];

@@ -1,13 +1,17 @@
 // Writes nodes as JSON, into bytes: a huge file has millions of them, and texts that are put together cost more than parsing. What each
 // node begins with, and names of fields, are written eight bytes at a time, and numbers four digits at a time.
 
-/** @typedef {import('./node.js').Field} Field */
-/** @typedef {import('./node.js').TreeNode} TreeNode */
+import { END, FIELDS, FIELD_NAMES, KIND_NAMES, LIST, NEXT, NODE, SIZE, SORT, SORT_BITS, START, SYMBOL, TRUE } from './nodes.js';
+
+/** @typedef {import('./nodes.js').Made} Made */
+/** @typedef {import('./nodes.js').Nodes} Nodes */
 
 /** So many bytes are written before the next piece begins. */
 const PIECE = 1 << 20;
 /** More than a number has, with what stands around it and what is written behind it and then over. */
 const NUMBER_ROOM = 20;
+/** More than a node has without its lists and texts. */
+const NODE_ROOM = 1024;
 /** The most bytes that a unit of a text becomes. */
 const UNIT_ROOM = 6;
 const [QUOTE, COMMA, ZERO, OPEN, CLOSE, CLOSE_NODE, BACKSLASH] = [...'",0[]}\\'].map((it) => it.charCodeAt(0));
@@ -27,18 +31,10 @@ const DIGITS = Uint32Array.from({ length: GROUP }, (_, i) => (
  * @property {Float64Array} words its bytes, and more
  */
 
-/** What nodes of a kind begin with, and how the fields of those that came first begin, in their order. */
-/**
- * @typedef {object} Form
- * @property {Ascii} head
- * @property {string[]} keys
- * @property {Ascii[]} names
- */
-
-/** @type {Map<string, Form>} by kind */
-const FORMS = new Map();
-/** @type {Map<string, Ascii>} how each field begins */
-const NAMES = new Map();
+/** @type {Ascii[]} what nodes begin with, by the number of their kind */
+const HEADS = [];
+/** @type {Ascii[]} how fields begin, by the numbers of their names */
+const NAMES = [];
 
 /** @param {string} text @returns {Ascii} */
 function asciiOf(text) {
@@ -48,25 +44,16 @@ function asciiOf(text) {
   return { length: text.length, words: Float64Array.from({ length: bytes.length / 8 }, (_, i) => view.getFloat64(8 * i, true)) };
 }
 
-const TRUE = asciiOf('true');
+const TRUE_TEXT = asciiOf('true');
 
-/** @param {string} kind @returns {Form} */
-function formOf(kind) {
-  let found = FORMS.get(kind);
-  if (!found) FORMS.set(kind, (found = { head: asciiOf(`,{"kind":"${kind}","range":[`), keys: [], names: [] }));
-  return found;
+/** @param {number} kind @returns {Ascii} */
+function headOf(kind) {
+  return (HEADS[kind] ??= asciiOf(`,{"kind":"${KIND_NAMES[kind]}","range":[`));
 }
 
-/** @param {Form} form @param {number} i which of the fields it is @param {string} key @returns {Ascii} how the field begins */
-function nameOf(form, i, key) {
-  if (form.keys[i] === key) return form.names[i];
-  let found = NAMES.get(key);
-  if (!found) NAMES.set(key, (found = asciiOf(`,"${key}":`)));
-  if (i === form.keys.length) {
-    form.keys.push(key);
-    form.names.push(found);
-  }
-  return found;
+/** @param {number} name @returns {Ascii} */
+function nameOf(name) {
+  return (NAMES[name] ??= asciiOf(`,"${FIELD_NAMES[name]}":`));
 }
 
 /** @param {DataView} view @param {number} at @param {Ascii} text for which there is room, and for a word more @returns {number} where it ends */
@@ -91,6 +78,15 @@ function putNumber(view, at, value) {
   return from + 4;
 }
 
+/** @param {DataView} view @param {number} at @param {Ascii} head @param {number} start @param {number} end of the node's range @returns {number} where it ends */
+function putHead(view, at, head, start, end) {
+  const comma = putNumber(view, putAscii(view, at, head), start);
+  view.setUint8(comma, COMMA);
+  const close = putNumber(view, comma + 1, end);
+  view.setUint8(close, CLOSE);
+  return close + 1;
+}
+
 /**
  * Returns memory for a further piece of a long tree. V8 counts other memory, and looks anew through all that the parser made as it grows; what
  * threads can share it doesn't count.
@@ -111,6 +107,11 @@ function firstPiece(count) {
   return found;
 }
 
+/** @param {number[]} list @param {number} from the first of those whose order is turned round */
+function reverse(list, from) {
+  for (let i = from, k = list.length - 1; i < k; i++, k--) [list[i], list[k]] = [list[k], list[i]];
+}
+
 export class TreeWriter {
   constructor() {
     this.bytes = Buffer.allocUnsafeSlow(0);
@@ -119,9 +120,8 @@ export class TreeWriter {
     this.first = this.bytes;
     /** @type {Buffer[]} */
     this.full = [];
-    /** @type {TreeNode[]} what open nodes hold, as far as `count` */
-    this.held = [];
-    this.count = 0;
+    /** @type {Made[]} what is written next, the first behind the others */
+    this.waiting = [];
   }
 
   /** @returns {Buffer[]} what is written: a comma before each node */
@@ -162,51 +162,51 @@ export class TreeWriter {
     this.at = at;
   }
 
-  /** @param {Form} form @param {number} start @param {number} end of the node's range */
-  head({ head }, start, end) {
-    this.room(head.length + 3 * NUMBER_ROOM);
-    const { bytes, view } = this;
-    let at = putNumber(view, putAscii(view, this.at, head), start);
-    bytes[at++] = COMMA;
-    at = putNumber(view, at, end);
-    bytes[at++] = CLOSE;
-    this.at = at;
+  /** @param {Nodes} nodes @param {Made} root @param {number} number of the root: what it holds has the next ones, each before what that holds */
+  tree(nodes, root, number) {
+    const { waiting } = this;
+    let next = number;
+    waiting.push(root);
+    while (waiting.length > 0) this.node(nodes, /** @type {Made} */ (waiting.pop()), ++next);
   }
 
-  /** @param {TreeNode} node @param {number} next the number of the first that it holds, where those have none yet; else -1 */
-  fields({ kind, start, end, fields }, next) {
-    const form = formOf(kind);
-    this.head(form, start, end);
+  /** @param {Nodes} nodes @param {Made} made @param {number} next the number of the first that it holds */
+  node(nodes, made, next) {
+    const { waiting } = this;
+    const { words } = nodes;
+    const from = waiting.length;
+    const end = words[made + NEXT];
+    this.room(NODE_ROOM);
+    let { view, at } = this;
+    at = putHead(view, at, headOf(words[made]), words[made + START], words[made + END]);
     let free = next;
-    let place = 0;
-    for (const key in fields) {
-      const value = fields[key];
-      const i = place++;
-      if (value === null || value === undefined || value === false || (Array.isArray(value) && value.length === 0)) continue;
-      const name = nameOf(form, i, key);
-      this.room(name.length + 2 * NUMBER_ROOM);
-      this.at = putAscii(this.view, this.at, name);
-      if (typeof value === 'string') this.text(value);
-      else if (value === true) this.at = putAscii(this.view, this.at, TRUE);
-      else if (typeof value === 'number') this.at += this.bytes.write(String(value), this.at, 'latin1');
-      else if (!Array.isArray(value)) free = this.reference(value, free);
-      else if (typeof value[0] === 'string') this.symbol(value[0], /** @type {number} */ (value[1]));
-      else free = this.list(/** @type {TreeNode[]} */ (value), free);
+    for (let field = made + FIELDS; field < end;) {
+      const sort = words[field] & SORT;
+      at = putAscii(view, at, nameOf(words[field++] >> SORT_BITS));
+      if (sort === NODE) {
+        const child = words[field++];
+        at = putNumber(view, at, free);
+        free += words[child + SIZE];
+        waiting.push(child);
+      } else if (sort === TRUE) at = putAscii(view, at, TRUE_TEXT);
+      else {
+        this.at = at;
+        if (sort === LIST) free = this.list(words, field, free);
+        else this.value(nodes, field, sort === SYMBOL);
+        field += sort === LIST ? 1 + words[field] : sort === SYMBOL ? 2 : 1;
+        this.room(NODE_ROOM);
+        ({ view, at } = this);
+      }
     }
-    this.room(1);
-    this.bytes[this.at++] = CLOSE_NODE;
+    view.setUint8(at, CLOSE_NODE);
+    this.at = at + 1;
+    if (waiting.length > from + 1) reverse(waiting, from);
   }
 
-  /** @param {TreeNode} node @param {number} free the next number that no node has @returns {number} that behind what the node holds */
-  reference(node, free) {
-    if (free < 0) {
-      this.at = putNumber(this.view, this.at, node.number);
-      return free;
-    }
-    node.number = free;
-    this.held[this.count++] = node;
-    this.at = putNumber(this.view, this.at, free);
-    return free + node.size;
+  /** @param {Nodes} nodes @param {number} at where a text's number stands @param {boolean} isSymbol whether that of a scope stands behind it */
+  value({ words, texts }, at, isSymbol) {
+    if (isSymbol) this.symbol(texts[words[at]], words[at + 1] >>> 0);
+    else this.text(texts[words[at]]);
   }
 
   /** @param {string} name @param {number} scope */
@@ -219,30 +219,23 @@ export class TreeWriter {
     this.bytes[this.at++] = CLOSE;
   }
 
-  /** @param {TreeNode[]} list @param {number} free @returns {number} */
-  list(list, free) {
+  /** @param {Int32Array} words @param {number} from where the length of the list stands @param {number} free @returns {number} */
+  list(words, from, free) {
+    const { waiting } = this;
+    const count = words[from];
+    this.room((count + 1) * NUMBER_ROOM);
+    const { view } = this;
+    let { at } = this;
     let next = free;
-    this.room((list.length + 1) * NUMBER_ROOM);
-    this.bytes[this.at++] = OPEN;
-    for (let i = 0; i < list.length; i++) {
-      if (i > 0) this.bytes[this.at++] = COMMA;
-      next = this.reference(list[i], next);
+    for (let i = 1; i <= count; i++) {
+      view.setUint8(at++, i === 1 ? OPEN : COMMA);
+      at = putNumber(view, at, next);
+      const made = words[from + i];
+      waiting.push(made);
+      next += words[made + SIZE];
     }
-    this.bytes[this.at++] = CLOSE;
+    view.setUint8(at, CLOSE);
+    this.at = at + 1;
     return next;
-  }
-
-  /** @param {TreeNode} node numbered, with all that it holds */
-  node(node) {
-    this.fields(node, -1);
-  }
-
-  /** @param {TreeNode} root numbered: so is what it holds, then, each before what that holds */
-  tree(root) {
-    const from = this.count;
-    this.fields(root, root.number + 1);
-    const end = this.count;
-    for (let i = from; i < end; i++) this.tree(this.held[i]);
-    this.count = from;
   }
 }

@@ -2,12 +2,17 @@
 import { K, hasModifier, ts } from './converter.js';
 import { hoistFunction, textOf } from './scopes.js';
 import { elementKey, entity } from './names.js';
+import { formOf, nameNumber } from './nodes.js';
 import { parameter, parameters } from './patterns.js';
 import { expression } from './expressions.js';
 
 /** @typedef {import('./converter.js').Converter} Converter */
-/** @typedef {import('./node.js').TreeNode} TreeNode */
+/** @typedef {import('./nodes.js').Made} Made */
 
+const TYPE_ANN = formOf('TsTypeAnn');
+const TY = nameNumber('ty');
+/** @type {Made[]} */
+const NONE = [];
 const [COLON, EQUALS, GREATER] = [...':=>'].map((it) => it.charCodeAt(0));
 
 /** @param {Converter} c @param {import('typescript').TypeNode | undefined} node from the colon, or the arrow, on */
@@ -16,7 +21,7 @@ export function annotation(c, node) {
   const before = c.source.charCodeAt(node.pos - 1);
   const isArrow = before === GREATER && c.source.charCodeAt(node.pos - 2) === EQUALS;
   const start = before === COLON ? node.pos - 1 : isArrow ? node.pos - 2 : c.start(node);
-  return c.at('TsTypeAnn', start, node.end, { ty: type(c, node) });
+  return c.single(TYPE_ANN, start, node.end, TY, type(c, node));
 }
 
 /** @param {Converter} c @param {import('typescript').TypeNode | undefined} node of what is no type itself */
@@ -85,7 +90,7 @@ function firstName(name) {
   return ts.isIdentifier(name) ? name : firstName(name.left);
 }
 
-/** @param {Converter} c @param {import('typescript').EntityName} name @returns {TreeNode} names of another module, which no scope here declares */
+/** @param {Converter} c @param {import('typescript').EntityName} name @returns {Made} names of another module, which no scope here declares */
 function qualifier(c, name) {
   if (ts.isIdentifier(name)) return c.node('Ident', name, { sym: [textOf(name), 1] });
   return c.node('TsQualifiedName', name, { left: qualifier(c, name.left), right: textOf(name.right) });
@@ -128,16 +133,16 @@ function predicate(c, node) {
   return c.type(node, [ts.isIdentifier(name) && c.ident(name), of && c.at('TsTypeAnn', c.start(of), of.end, { ty: type(c, of) })]);
 }
 
-/** @param {Converter} c @param {import('typescript').Node} node any other type @returns {TreeNode} with the types in it */
+/** @param {Converter} c @param {import('typescript').Node} node any other type @returns {Made} with the types in it */
 function plain(c, node) {
-  if (node.kind <= K.LastToken) return c.type(node, []);
-  /** @type {TreeNode[]} */
+  if (node.kind <= K.LastToken) return c.type(node, NONE);
+  /** @type {Made[]} */
   const parts = [];
   ts.forEachChild(node, (it) => void (ts.isTypeNode(it) && parts.push(type(c, it))));
   return c.type(node, parts);
 }
 
-/** @type {Record<number, (c: Converter, node: any) => TreeNode>} */
+/** @type {Record<number, (c: Converter, node: any) => Made>} */
 const TYPES = {
   [K.TypeReference]: (c, node) => c.type(node, [entity(c, node.typeName), typeArguments(c, node.typeArguments)]),
   [K.ExpressionWithTypeArguments]: (c, node) => c.type(node, [expression(c, node.expression), typeArguments(c, node.typeArguments)]),
@@ -153,7 +158,7 @@ const TYPES = {
   [K.ConditionalType]: conditional,
   [K.InferType]: (c, node) => c.type(node, [typeParameter(c, node.typeParameter)]),
   [K.TypePredicate]: predicate,
-  [K.LiteralType]: (c, node) => c.type(node, []),
+  [K.LiteralType]: (c, node) => c.type(node, NONE),
   [K.TemplateLiteralType]: (c, node) => c.type(node, node.templateSpans.map((/** @type {any} */ it) => type(c, it.type))),
 };
 
@@ -163,7 +168,7 @@ function functionType(c, node) {
     ...parameters(c, node.parameters, true), typeParameters(c, node.typeParameters), annotation(c, node.type)]));
 }
 
-/** @param {Converter} c @param {import('typescript').Node} node @returns {TreeNode} */
+/** @param {Converter} c @param {import('typescript').Node} node @returns {Made} */
 export function type(c, node) {
   const before = c.inType;
   c.inType = true;
@@ -179,7 +184,7 @@ function setter(c, m) {
   return c.node('TsMethodSignature', m, name);
 }
 
-/** @param {Converter} c @param {import('typescript').SignatureDeclaration} m @returns {Record<string, import('./node.js').Field>} */
+/** @param {Converter} c @param {import('typescript').SignatureDeclaration} m @returns {Record<string, import('./nodes.js').Given>} */
 function signature(c, m) {
   return { type_params: typeParameters(c, m.typeParameters), params: parameters(c, m.parameters, true), type_ann: annotation(c, m.type) };
 }
@@ -197,7 +202,7 @@ function propertySignature(c, m) {
   return c.node('TsPropertySignature', m, { key, computed, type_ann: annotation(c, m.type) });
 }
 
-/** @type {Record<number, [string, (c: Converter, member: any) => TreeNode]>} */
+/** @type {Record<number, [string, (c: Converter, member: any) => Made]>} */
 const ELEMENTS = {
   [K.CallSignature]: ['call', (c, m) => c.node('TsCallSignatureDecl', m, signature(c, m))],
   [K.ConstructSignature]: ['construct', (c, m) => c.node('TsConstructSignatureDecl', m, signature(c, m))],
@@ -210,7 +215,7 @@ const ELEMENTS = {
   })],
 };
 
-/** @param {Converter} c @param {import('typescript').TypeElement | import('typescript').IndexSignatureDeclaration} m @returns {TreeNode} */
+/** @param {Converter} c @param {import('typescript').TypeElement | import('typescript').IndexSignatureDeclaration} m @returns {Made} */
 export function element(c, m) {
   const [kind, make] = ELEMENTS[m.kind];
   const before = c.inType;

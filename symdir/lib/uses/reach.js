@@ -2,7 +2,7 @@
 import path from 'node:path';
 
 import { linksOf, mentionsOf } from './links.js';
-import { isTest, rootsOf } from './roots.js';
+import { rootsOf, testsOf } from './roots.js';
 import { Tree } from './tree.js';
 
 /** @typedef {import('../folder/folder.js').Folder} Folder */
@@ -56,13 +56,15 @@ export class Reach {
   constructor(folder, isProduction) {
     this.folder = folder;
     const { modules, files } = folder.sources;
+    const own = [...modules.values()].filter((it) => files.holds(it.file));
+    const tests = testsOf(folder, own.map((it) => it.specifier));
     /** @type {Map<string, Facts>} of the folder's modules, by specifier */
     this.facts = new Map();
-    for (const module of modules.values()) {
-      const isOwn = files.holds(module.file) && (!isProduction || !isTest(folder, module.specifier) || folder.entries.includes(module.specifier));
-      if (isOwn) this.facts.set(module.specifier, this.factsOf(module));
+    for (const module of own) {
+      const isLeftOut = isProduction && tests.has(module.specifier) && !folder.entries.includes(module.specifier);
+      if (!isLeftOut) this.facts.set(module.specifier, this.factsOf(module));
     }
-    this.roots = rootsOf(folder, [...this.facts.keys()], !isProduction);
+    this.roots = rootsOf(folder, [...this.facts.keys()], isProduction ? null : tests);
     /** @type {Map<string, boolean>} names that others use, by `keyOf`: whether for types alone */
     this.used = new Map();
     /** @type {Map<string, Map<string, Export>>} what modules export, by specifier and name */

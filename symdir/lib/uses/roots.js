@@ -57,18 +57,20 @@ function fromPackages(folder, withScripts) {
   return found.map((file) => folder.sources.specifierOf(file)).filter((it) => modules.has(it));
 }
 
-/** @param {Folder} folder @param {string} specifier @returns {boolean} whether it is a test, an example, a script, or configures a tool */
-export function isTest(folder, specifier) {
-  return TEST.test(folder.short(specifier));
+/** @param {Folder} folder @param {string[]} modules their specifiers @returns {Set<string>} the tests among them, examples, scripts, and what configures tools; none where nothing else is there */
+export function testsOf(folder, modules) {
+  const code = modules.filter((it) => !it.endsWith('.json'));
+  const found = code.filter((it) => TEST.test(folder.short(it)));
+  return new Set(found.length < code.length ? found : []);
 }
 
 /**
  * @param {Folder} folder
  * @param {string[]} modules their specifiers
- * @param {boolean} withTests and scripts
+ * @param {Set<string> | null} tests among them; null where these and scripts are left out
  * @returns {Set<string>} those of them that are reached from outside
  */
-export function rootsOf(folder, modules, withTests) {
-  const outside = new Set([...folder.entries, ...fromPackages(folder, withTests)]);
-  return new Set(modules.filter((it) => outside.has(it) || (withTests && isTest(folder, it))));
+export function rootsOf(folder, modules, tests) {
+  const outside = new Set([...folder.entries, ...fromPackages(folder, tests !== null)]);
+  return new Set(modules.filter((it) => outside.has(it) || tests?.has(it)));
 }

@@ -42,7 +42,7 @@ export class Tree {
     /** The number of the node that holds it; -1 of the program. */
     this.above = new Int32Array(this.nodes.length).fill(-1);
     /** @type {string[]} the field behind which it stands there */
-    this.field = [];
+    this.field = new Array(this.nodes.length);
     this.erased = new Uint8Array(this.nodes.length);
     /** @type {Buffer | undefined} the text, where it is looked at */
     this.bytes = undefined;
@@ -60,14 +60,16 @@ export class Tree {
     const isBelow = i > 0 && this.erased[this.above[i]] === 1;
     if (isBelow || this.isDeclaration || ERASED.has(node.kind)) this.erased[i] = 1;
     for (const key in node) {
-      if (NO_CHILDREN.has(key)) continue;
       const value = node[key];
-      for (const it of Array.isArray(value) ? value : [value]) {
-        if (typeof it !== 'number') continue;
-        this.above[it] = i;
-        this.field[it] = key;
-      }
+      if (typeof value === 'number') this.hold(i, key, value);
+      else if (Array.isArray(value) && !NO_CHILDREN.has(key)) for (const it of value) if (typeof it === 'number') this.hold(i, key, it);
     }
+  }
+
+  /** @param {number} i a node @param {string} key a field of it @param {number} below what it holds there */
+  hold(i, key, below) {
+    this.above[below] = i;
+    this.field[below] = key;
   }
 
   /** @param {number} i @returns {string} the kind of what holds it, and the field */

@@ -1,5 +1,7 @@
 // `--watch`: stays, and prints what differs in the answer when sources change. Each answer is that of a fresh run.
 import path from 'node:path';
+import { setImmediate } from 'node:timers/promises';
+import v8 from 'node:v8';
 
 import { Failure, failureOf } from '../failure.js';
 import { begin, poolOf } from '../folder/begin.js';
@@ -24,6 +26,8 @@ import { Watched, Watchers } from './watchers.js';
 
 /** So many milliseconds after a change what else is written at once is there. */
 const QUIET = 8;
+/** For so many milliseconds files are parsed before one changes, so that what parses is optimized by then. */
+const WARMING = 500;
 /** How many changed files are named. */
 const NAMED = 3;
 
@@ -67,6 +71,8 @@ export class Watch {
     this.hashes = new Map();
     /** @type {{ files: Watched, resolver: Resolver } | null} what the imports of the last reading were resolved by */
     this.resolved = null;
+    /** @type {Folder | null} as it was read last */
+    this.folder = null;
     /** @type {Answer | null} the last one */
     this.last = null;
     /** The failure that is told, if the last run was one. */
@@ -96,9 +102,10 @@ export class Watch {
   async run() {
     try {
       await this.first();
-      for (;;) {
+      for (let isWarm = false; ; isWarm = true) {
         await this.changed();
         await this.next();
+        if (!isWarm) await this.warm();
       }
     } finally {
       this.watchers.close();
@@ -135,29 +142,32 @@ export class Watch {
       const answer = await this.answerOf(options, folder, () => folder.open(engine));
       this.tellFirst(answer);
       this.keep(reading, folder.sources);
+      this.folder = folder;
       await this.answers.adopt(folder.sources, /** @type {import('../symq.js').Symq} */ (folder.symq));
     } finally {
       await folder.close();
     }
-    await this.warm(reading, folder.sources);
     // what happened until directories were watched, and where else files are looked for
     this.heard.add(reading.folder);
   }
 
-  /**
-   * Has the parser loaded, and what runs often compiled.
-   * @param {Reading} reading
-   * @param {Sources} sources
-   */
-  async warm({ bodies, ambient }, { modules }) {
+  /** Has what parses loaded and optimized, by parsing files again, until something changes. */
+  async warm() {
     const { parseFile } = await import('../folder/parse.js');
-    const [smallest] = [...modules.values()].sort((a, b) => a.parsed.text.length - b.parsed.text.length);
-    try {
-      parseFile({ file: smallest.file, specifier: smallest.specifier }, { bodies, ambient });
-    } catch {
-      // what can't be read is told when it is read for its own sake
-    }
     optimize(false);
+    // what V8 compiled is dropped else where it isn't run for a while, as between two changes
+    v8.setFlagsFromString('--no-flush-bytecode');
+    const [bodies, ambient] = JSON.parse(this.how);
+    const last = performance.now() + WARMING;
+    for (const file of this.trees.keys()) {
+      if (this.heard.size > 0 || performance.now() > last) return;
+      try {
+        parseFile({ file, specifier: file }, { bodies, ambient });
+      } catch {
+        // what can't be read is told when it is read for its own sake
+      }
+      await setImmediate();
+    }
   }
 
   /** @param {Reading} reading @param {Sources} sources */
@@ -198,6 +208,8 @@ export class Watch {
     const options = this.options();
     const reading = this.asked.reading(options);
     const folder = await this.read(reading, options, heard);
+    if (this.folder) folder.takeOver(this.folder);
+    this.folder = folder;
     const answers = /** @type {Answers} */ (this.answers);
     const changed = answers.turnTo(folder.sources);
     let answer = await this.answerWith(options, folder, answers);

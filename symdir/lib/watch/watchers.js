@@ -107,6 +107,8 @@ export class Watchers {
     const known = this.open.get(folder);
     if (known?.identity === identity) return false;
     this.end(folder);
+    // what its watcher had to tell of its end isn't told any more
+    if (identity === null && known) this.hear(folder);
     if (identity === null) return false;
     try {
       const watcher = watch(folder, (what, name) => this.told(folder, what, name));

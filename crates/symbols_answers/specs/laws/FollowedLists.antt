@@ -11,20 +11,20 @@ use Rattle.symbols_ast.specs.Graph.{GraphView, resolved_dependency}
 use Rattle.symbols_nodes.specs.References.{SymbolReference, id, qualified_id, import_type}
 use Rattle.symbols_table.specs.Analysis.{symbol_count}
 use Rattle.symbols_table.specs.Changes.{parents_after_changes}
-use Rattle.symbols_table.specs.DeclViews.{FileDepNameView, FileDepView, DeclKindView, target, qualified_target, file_ref, definition, Declaration, decl_kind_dep}
+use Rattle.symbols_table.specs.DeclViews.{FileDepNameView, FileDepView, DeclKindView, target, qualified_target, file_ref, definition, Declaration}
+use Rattle.symbols_table.specs.DeclViews.{decl_kind_dep}
 use Rattle.symbols_table.specs.SymbolViews.{SymbolView, symbol_from_changes}
 use Rattle.symbols_root.specs.GraphModules.{table_changes_of_module}
 use Rattle.symbols_root.specs.TypesChains.{resolved_module_specifier}
 use Rattle.symbols_exports.specs.StarStatements.{star_specifiers}
 use Rattle.symbols_paths.specs.PathTrees.{SymbolBySpecifier}
 use Rattle.symbols_paths.specs.DeclTargets.{declarations_of}
-use Rattle.symbols_answers.specs.Questions.{QuestionView, query_module, query_exports, query_names, query_symbol, query_name}
-use Rattle.symbols_answers.specs.Questions.{query_deps, query_paths, query_definitions, query_leaves, query_resolve}
-use Rattle.symbols_answers.specs.QueryReach.{IsFollowedBySearch, star_specifier_is_followed, import_specifier_is_followed, import_type_specifier_is_followed}
-use Rattle.symbols_answers.specs.QueryReach.{IsSpecifierFollowedForQuestion}
-use Rattle.symbols_answers.specs.InputLists.{append_optional_specifier_if_absent, append_resolved_specifiers, declarations_in_module, import_specifiers_among}
-use Rattle.symbols_answers.specs.InputLists.{import_specifiers, star_and_import_specifiers, followed_specifiers, import_type_specifier}
-use Rattle.symbols_answers.specs.InputLists.{import_type_specifier_of_question}
+use Rattle.symbols_answers.specs.Questions.{QuestionView, query_module, query_exports, query_names, query_symbol, query_name, query_deps, query_paths}
+use Rattle.symbols_answers.specs.Questions.{query_definitions, query_leaves, query_resolve, IsFollowedBySearch, star_specifier_is_followed}
+use Rattle.symbols_answers.specs.Questions.{import_specifier_is_followed, import_type_specifier_is_followed, IsSpecifierFollowedForQuestion}
+use Rattle.symbols_answers.specs.Questions.{append_optional_specifier_if_absent, append_resolved_specifiers, declarations_in_module, import_specifiers_among}
+use Rattle.symbols_answers.specs.Questions.{import_specifiers, star_and_import_specifiers, followed_specifiers, import_type_specifier}
+use Rattle.symbols_answers.specs.Questions.{import_type_specifier_of_question}
 use Rattle.symbols_answers.specs.laws.Walks.{append_specifiers_if_absent}
 
 -- ---- elements of lists
@@ -146,6 +146,21 @@ import_specifiers_contain_each_import graph s decl name specifier_text has is =
     has (ap (λ (kind : DeclKindView). option_map (λ (dep : FileDepView). dep.specifier) (decl_kind_dep kind)) is))
 
 -- ---- what a question follows
+
+-- in two graphs it is the same list, if the specifiers of `export *` statements are, and those with imports and re-exports
+pub followed_specifiers_same : (graph other : GraphView) (specifier : List ℕ) → star_specifiers graph specifier ≡ star_specifiers other specifier
+    → star_and_import_specifiers graph specifier ≡ star_and_import_specifiers other specifier → (question : QuestionView)
+    → followed_specifiers graph question specifier ≡ followed_specifiers other question specifier
+followed_specifiers_same graph other specifier stars stars_and_imports query_module = refl
+followed_specifiers_same graph other specifier stars stars_and_imports query_exports = stars
+followed_specifiers_same graph other specifier stars stars_and_imports query_names = stars
+followed_specifiers_same graph other specifier stars stars_and_imports (query_symbol name) = refl
+followed_specifiers_same graph other specifier stars stars_and_imports (query_name s) = refl
+followed_specifiers_same graph other specifier stars stars_and_imports (query_deps s mode) = refl
+followed_specifiers_same graph other specifier stars stars_and_imports (query_paths s) = stars_and_imports
+followed_specifiers_same graph other specifier stars stars_and_imports (query_definitions s) = stars_and_imports
+followed_specifiers_same graph other specifier stars stars_and_imports (query_leaves s) = stars_and_imports
+followed_specifiers_same graph other specifier stars stars_and_imports (query_resolve reference) = stars_and_imports
 
 module _ (graph : GraphView) (queried : List ℕ) where
   -- by a search

@@ -8,12 +8,11 @@ use Rattle.std.specs.Str.{bytes_eq}
 use Rattle.std.proofs.lemmas.Option.{none-some}
 use Rattle.symbols_ast.specs.Graph.{GraphView, ModuleView, module_after_redirect, content_types_dependency, resolved_dependency}
 use Rattle.symbols_root.specs.TypesChains.{resolved_module_specifier}
-use Rattle.symbols_answers.specs.Questions.{QuestionView, QueryView}
+use Rattle.symbols_answers.specs.Questions.{QuestionView, QueryView, IsSpecifierRequestedByQuery, IsSpecifierLookedUpByQuery}
+use Rattle.symbols_answers.specs.Questions.{append_optional_specifier_if_absent, append_resolved_specifiers, walk_limit, followed_specifiers}
+use Rattle.symbols_answers.specs.Questions.{import_type_specifier_of_question, append_requested_specifiers, append_resolved_import_type, requested_specifiers}
+use Rattle.symbols_answers.specs.Questions.{append_types_dependency, seen_specifiers}
 use Rattle.symbols_answers.specs.Seen.{queried_specifier_is_looked_up, resolved_specifier_is_looked_up, is_requested, types_dependency_is_looked_up}
-use Rattle.symbols_answers.specs.QueryReach.{IsSpecifierRequestedByQuery, IsSpecifierLookedUpByQuery}
-use Rattle.symbols_answers.specs.InputLists.{append_optional_specifier_if_absent, append_resolved_specifiers, walk_limit, followed_specifiers}
-use Rattle.symbols_answers.specs.InputLists.{import_type_specifier_of_question, append_requested_specifiers, append_resolved_import_type, requested_specifiers}
-use Rattle.symbols_answers.specs.InputLists.{append_types_dependency, seen_specifiers}
 use Rattle.symbols_answers.specs.laws.Walks.{append_specifiers_if_absent, element_is_old_or_appended, appended_list_begins_with_old}
 use Rattle.symbols_answers.specs.laws.Walks.{appended_list_contains_each_new, appended_list_is_distinct_if_old_was, BeginsWith}
 use Rattle.symbols_answers.specs.laws.Walks.{elements_of_beginning_are_contained, beginning_is_not_longer, IsStepThatAppends, walked_list_begins_with_start}

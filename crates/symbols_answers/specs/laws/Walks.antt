@@ -11,7 +11,7 @@ use Rattle.std.proofs.lemmas.Map.Keys.{IsDistinct-push}
 use Rattle.std.proofs.lemmas.Option.{slice_get_cases, get_or_from_slice_get}
 use Rattle.symbols_root.specs.Specifiers.{contains_specifier}
 use Rattle.symbols_root.specs.laws.Specifiers.{bytes_eq_is_equivalence, specifier_index_if_contained}
-use Rattle.symbols_answers.specs.InputLists.{append_specifier_if_absent, list_grown_by_walk_from_index}
+use Rattle.symbols_answers.specs.Questions.{append_specifier_if_absent, list_grown_by_walk_from_index}
 
 -- ---- one more
 

@@ -2,7 +2,11 @@
 //! Categories: which kinds may stand at a place.
 
 ghost use Rattle.std.specs.Prelude.{◌≡◌};
-ghost use Rattle.symbols_ast.specs.Categories.{category_allows_kind, is_declaration, is_statement, is_expression, is_property_key, is_ts_entity_name, is_signature_pattern, is_pattern, is_type, is_member, is_type_element, is_import_or_export, is_item, is_exportable_declaration, is_neither_program_nor_import_export, is_constructor_param, is_accessor_key, is_type_query_expr, is_assign_left};
+ghost use Rattle.symbols_ast.specs.Kinds.{category_allows_kind, is_declaration, is_statement, is_expression};
+ghost use Rattle.symbols_ast.specs.Kinds.{is_property_key, is_ts_entity_name, is_signature_pattern, is_pattern};
+ghost use Rattle.symbols_ast.specs.Kinds.{is_type, is_member, is_type_element, is_import_or_export, is_item};
+ghost use Rattle.symbols_ast.specs.Kinds.{is_exportable_declaration, is_neither_program_nor_import_export};
+ghost use Rattle.symbols_ast.specs.Kinds.{is_constructor_param, is_accessor_key, is_type_query_expr, is_assign_left};
 
 use crate::tree::names::KindName;
 

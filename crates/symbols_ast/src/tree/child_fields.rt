@@ -4,7 +4,17 @@
 ghost use Rattle.std.specs.Prelude.{◌≡◌};
 ghost use Rattle.std.specs.Option.{option_map};
 ghost use Rattle.symbols_ast.specs.NodeRefs.{node_view, child_in_field, child_list_in_field};
-ghost use Rattle.symbols_ast.specs.ChildFields.{body_children_of, specifier_children_of, local_child_of, decl_child_of, orig_child_of, expr_child_of, id_child_of, entity_child_of, ident_child_of, class_child_of, type_params_child_of, super_class_child_of, super_type_params_child_of, implements_children_of, function_child_of, param_children_of, return_type_child_of, body_child_of, decl_children_of, name_child_of, init_child_of, extends_children_of, type_ann_child_of, member_children_of, param_child_of, key_child_of, value_child_of, constraint_child_of, default_child_of, ty_child_of, type_args_child_of, expr_name_child_of, qualifier_child_of, label_child_of, left_child_of, obj_child_of, prop_child_of, right_child_of, elem_children_of, prop_children_of, arg_child_of, children_field_of};
+ghost use Rattle.symbols_ast.specs.Fields.{body_children_of, specifier_children_of, local_child_of, decl_child_of};
+ghost use Rattle.symbols_ast.specs.Fields.{orig_child_of, expr_child_of, id_child_of, entity_child_of, ident_child_of};
+ghost use Rattle.symbols_ast.specs.Fields.{class_child_of, type_params_child_of, super_class_child_of};
+ghost use Rattle.symbols_ast.specs.Fields.{super_type_params_child_of, implements_children_of, function_child_of};
+ghost use Rattle.symbols_ast.specs.Fields.{param_children_of, return_type_child_of, body_child_of, decl_children_of};
+ghost use Rattle.symbols_ast.specs.Fields.{name_child_of, init_child_of, extends_children_of, type_ann_child_of};
+ghost use Rattle.symbols_ast.specs.Fields.{member_children_of, param_child_of, key_child_of, value_child_of};
+ghost use Rattle.symbols_ast.specs.Fields.{constraint_child_of, default_child_of, ty_child_of, type_args_child_of};
+ghost use Rattle.symbols_ast.specs.Fields.{expr_name_child_of, qualifier_child_of, label_child_of, left_child_of};
+ghost use Rattle.symbols_ast.specs.Fields.{obj_child_of, prop_child_of, right_child_of, elem_children_of};
+ghost use Rattle.symbols_ast.specs.Fields.{prop_children_of, arg_child_of, children_field_of};
 
 use crate::tree::arena::NodeId;
 use crate::tree::kind_fields;
@@ -28,9 +38,11 @@ impl<'a> NodeRef<'a> {
         kind_fields::specifiers_of_kind(self.kind())
     }
 
-    /// Returns the `local` of `ImportNamed`, `ImportDefault`, `ImportNamespace`, `ExportDefaultSpecifier`.
+    /// Returns the `local` of `ImportNamed`, `ImportDefault`, `ImportNamespace`,
+    /// `ExportDefaultSpecifier`.
     pub fn local(self) -> Option<NodeRef<'a>>
-        ensures { option_map node_view result ≡ child_in_field (node_view self.entry) local_child_of }
+        ensures { option_map node_view result
+            ≡ child_in_field (node_view self.entry) local_child_of }
     {
         let child = kind_fields::local_of_kind(self.kind());
         NodeRef::node_in(self.tree, child)
@@ -38,7 +50,8 @@ impl<'a> NodeRef<'a> {
 
     /// Returns the `decl` of `ExportDecl`, `ExportDefaultDecl`.
     pub fn decl(self) -> Option<NodeRef<'a>>
-        ensures { option_map node_view result ≡ child_in_field (node_view self.entry) decl_child_of }
+        ensures { option_map node_view result
+            ≡ child_in_field (node_view self.entry) decl_child_of }
     {
         let child = kind_fields::decl_of_kind(self.kind());
         NodeRef::node_in(self.tree, child)
@@ -46,21 +59,25 @@ impl<'a> NodeRef<'a> {
 
     /// Returns the `orig` of an `ExportSpecifier`.
     pub fn orig(self) -> Option<NodeRef<'a>>
-        ensures { option_map node_view result ≡ child_in_field (node_view self.entry) orig_child_of }
+        ensures { option_map node_view result
+            ≡ child_in_field (node_view self.entry) orig_child_of }
     {
         let child = kind_fields::orig_of_kind(self.kind());
         NodeRef::node_in(self.tree, child)
     }
 
-    /// Returns the `expr` of `ExportDefaultExpr`, `TsExportAssignment`, `ExprStmt`, `TsExprWithTypeArgs`, `TsAsExpr`, `TsTypeAssertion`, `Computed`, `ExprPat`.
+    /// Returns the `expr` of `ExportDefaultExpr`, `TsExportAssignment`, `ExprStmt`,
+    /// `TsExprWithTypeArgs`, `TsAsExpr`, `TsTypeAssertion`, `Computed`, `ExprPat`.
     pub fn expr(self) -> Option<NodeRef<'a>>
-        ensures { option_map node_view result ≡ child_in_field (node_view self.entry) expr_child_of }
+        ensures { option_map node_view result
+            ≡ child_in_field (node_view self.entry) expr_child_of }
     {
         let child = kind_fields::expr_of_kind(self.kind());
         NodeRef::node_in(self.tree, child)
     }
 
-    /// Returns the `id` of `TsImportEqualsDecl`, `TsInterfaceDecl`, `TsTypeAliasDecl`, `TsEnumDecl`, `TsModuleDecl`, `TsNamespaceDecl`.
+    /// Returns the `id` of `TsImportEqualsDecl`, `TsInterfaceDecl`, `TsTypeAliasDecl`,
+    /// `TsEnumDecl`, `TsModuleDecl`, `TsNamespaceDecl`.
     pub fn id(self) -> Option<NodeRef<'a>>
         ensures { option_map node_view result ≡ child_in_field (node_view self.entry) id_child_of }
     {
@@ -70,7 +87,8 @@ impl<'a> NodeRef<'a> {
 
     /// Returns the `entity` of a `TsImportEqualsDecl`.
     pub fn entity(self) -> Option<NodeRef<'a>>
-        ensures { option_map node_view result ≡ child_in_field (node_view self.entry) entity_child_of }
+        ensures { option_map node_view result
+            ≡ child_in_field (node_view self.entry) entity_child_of }
     {
         let child = kind_fields::entity_of_kind(self.kind());
         NodeRef::node_in(self.tree, child)
@@ -78,7 +96,8 @@ impl<'a> NodeRef<'a> {
 
     /// Returns the `ident` of `ClassDecl`, `ClassExpr`, `FnDecl`, `FnExpr`.
     pub fn ident(self) -> Option<NodeRef<'a>>
-        ensures { option_map node_view result ≡ child_in_field (node_view self.entry) ident_child_of }
+        ensures { option_map node_view result
+            ≡ child_in_field (node_view self.entry) ident_child_of }
     {
         let child = kind_fields::ident_of_kind(self.kind());
         NodeRef::node_in(self.tree, child)
@@ -86,15 +105,18 @@ impl<'a> NodeRef<'a> {
 
     /// Returns the `class` of `ClassDecl`, `ClassExpr`.
     pub fn class(self) -> Option<NodeRef<'a>>
-        ensures { option_map node_view result ≡ child_in_field (node_view self.entry) class_child_of }
+        ensures { option_map node_view result
+            ≡ child_in_field (node_view self.entry) class_child_of }
     {
         let child = kind_fields::class_of_kind(self.kind());
         NodeRef::node_in(self.tree, child)
     }
 
-    /// Returns the `type_params` of `Class`, `Function`, `TsInterfaceDecl`, `TsTypeAliasDecl`, `TsCallSignatureDecl`, `TsConstructSignatureDecl`, `TsMethodSignature`, `Arrow`.
+    /// Returns the `type_params` of `Class`, `Function`, `TsInterfaceDecl`, `TsTypeAliasDecl`,
+    /// `TsCallSignatureDecl`, `TsConstructSignatureDecl`, `TsMethodSignature`, `Arrow`.
     pub fn type_params(self) -> Option<NodeRef<'a>>
-        ensures { option_map node_view result ≡ child_in_field (node_view self.entry) type_params_child_of }
+        ensures { option_map node_view result
+            ≡ child_in_field (node_view self.entry) type_params_child_of }
     {
         let child = kind_fields::type_params_of_kind(self.kind());
         NodeRef::node_in(self.tree, child)
@@ -102,7 +124,8 @@ impl<'a> NodeRef<'a> {
 
     /// Returns the `super_class` of a `Class`.
     pub fn super_class(self) -> Option<NodeRef<'a>>
-        ensures { option_map node_view result ≡ child_in_field (node_view self.entry) super_class_child_of }
+        ensures { option_map node_view result
+            ≡ child_in_field (node_view self.entry) super_class_child_of }
     {
         let child = kind_fields::super_class_of_kind(self.kind());
         NodeRef::node_in(self.tree, child)
@@ -110,7 +133,8 @@ impl<'a> NodeRef<'a> {
 
     /// Returns the `super_type_params` of a `Class`.
     pub fn super_type_params(self) -> Option<NodeRef<'a>>
-        ensures { option_map node_view result ≡ child_in_field (node_view self.entry) super_type_params_child_of }
+        ensures { option_map node_view result
+            ≡ child_in_field (node_view self.entry) super_type_params_child_of }
     {
         let child = kind_fields::super_type_params_of_kind(self.kind());
         NodeRef::node_in(self.tree, child)
@@ -125,13 +149,16 @@ impl<'a> NodeRef<'a> {
 
     /// Returns the `function` of `FnDecl`, `FnExpr`, `ClassMethod`.
     pub fn function(self) -> Option<NodeRef<'a>>
-        ensures { option_map node_view result ≡ child_in_field (node_view self.entry) function_child_of }
+        ensures { option_map node_view result
+            ≡ child_in_field (node_view self.entry) function_child_of }
     {
         let child = kind_fields::function_of_kind(self.kind());
         NodeRef::node_in(self.tree, child)
     }
 
-    /// Returns the `params` of `Function`, `Constructor`, `TsIndexSignature`, `TsCallSignatureDecl`, `TsConstructSignatureDecl`, `TsMethodSignature`, `TsTypeParamDecl`, `TsTypeParamInstantiation`, `Arrow`.
+    /// Returns the `params` of `Function`, `Constructor`, `TsIndexSignature`,
+    /// `TsCallSignatureDecl`, `TsConstructSignatureDecl`, `TsMethodSignature`, `TsTypeParamDecl`,
+    /// `TsTypeParamInstantiation`, `Arrow`.
     pub fn params(self) -> &'a [NodeId]
         ensures { result.now ≡ child_list_in_field (node_view self.entry) param_children_of }
     {
@@ -140,7 +167,8 @@ impl<'a> NodeRef<'a> {
 
     /// Returns the `return_type` of `Function`, `Arrow`.
     pub fn return_type(self) -> Option<NodeRef<'a>>
-        ensures { option_map node_view result ≡ child_in_field (node_view self.entry) return_type_child_of }
+        ensures { option_map node_view result
+            ≡ child_in_field (node_view self.entry) return_type_child_of }
     {
         let child = kind_fields::return_type_of_kind(self.kind());
         NodeRef::node_in(self.tree, child)
@@ -148,7 +176,8 @@ impl<'a> NodeRef<'a> {
 
     /// Returns the `body` of `Function`, `TsModuleDecl`, `TsNamespaceDecl`, `Constructor`, `Arrow`.
     pub fn body_node(self) -> Option<NodeRef<'a>>
-        ensures { option_map node_view result ≡ child_in_field (node_view self.entry) body_child_of }
+        ensures { option_map node_view result
+            ≡ child_in_field (node_view self.entry) body_child_of }
     {
         let child = kind_fields::body_node_of_kind(self.kind());
         NodeRef::node_in(self.tree, child)
@@ -163,7 +192,8 @@ impl<'a> NodeRef<'a> {
 
     /// Returns the `name` of a `VarDeclarator`.
     pub fn name(self) -> Option<NodeRef<'a>>
-        ensures { option_map node_view result ≡ child_in_field (node_view self.entry) name_child_of }
+        ensures { option_map node_view result
+            ≡ child_in_field (node_view self.entry) name_child_of }
     {
         let child = kind_fields::name_of_kind(self.kind());
         NodeRef::node_in(self.tree, child)
@@ -171,7 +201,8 @@ impl<'a> NodeRef<'a> {
 
     /// Returns the `init` of `VarDeclarator`, `TsEnumMember`.
     pub fn init(self) -> Option<NodeRef<'a>>
-        ensures { option_map node_view result ≡ child_in_field (node_view self.entry) init_child_of }
+        ensures { option_map node_view result
+            ≡ child_in_field (node_view self.entry) init_child_of }
     {
         let child = kind_fields::init_of_kind(self.kind());
         NodeRef::node_in(self.tree, child)
@@ -184,9 +215,13 @@ impl<'a> NodeRef<'a> {
         kind_fields::extends_of_kind(self.kind())
     }
 
-    /// Returns the `type_ann` of `TsTypeAliasDecl`, `ClassProp`, `AutoAccessor`, `TsIndexSignature`, `TsCallSignatureDecl`, `TsConstructSignatureDecl`, `TsPropertySignature`, `TsGetterSignature`, `TsMethodSignature`, `BindingIdent`, `ArrayPat`, `ObjectPat`, `RestPat`.
+    /// Returns the `type_ann` of `TsTypeAliasDecl`, `ClassProp`, `AutoAccessor`,
+    /// `TsIndexSignature`, `TsCallSignatureDecl`, `TsConstructSignatureDecl`,
+    /// `TsPropertySignature`, `TsGetterSignature`, `TsMethodSignature`, `BindingIdent`, `ArrayPat`,
+    /// `ObjectPat`, `RestPat`.
     pub fn type_ann(self) -> Option<NodeRef<'a>>
-        ensures { option_map node_view result ≡ child_in_field (node_view self.entry) type_ann_child_of }
+        ensures { option_map node_view result
+            ≡ child_in_field (node_view self.entry) type_ann_child_of }
     {
         let child = kind_fields::type_ann_of_kind(self.kind());
         NodeRef::node_in(self.tree, child)
@@ -201,13 +236,16 @@ impl<'a> NodeRef<'a> {
 
     /// Returns the `param` of `TsParamProp`, `TsSetterSignature`.
     pub fn param(self) -> Option<NodeRef<'a>>
-        ensures { option_map node_view result ≡ child_in_field (node_view self.entry) param_child_of }
+        ensures { option_map node_view result
+            ≡ child_in_field (node_view self.entry) param_child_of }
     {
         let child = kind_fields::param_of_kind(self.kind());
         NodeRef::node_in(self.tree, child)
     }
 
-    /// Returns the `key` of `ClassMethod`, `ClassProp`, `AutoAccessor`, `TsPropertySignature`, `TsGetterSignature`, `TsSetterSignature`, `TsMethodSignature`, `KeyValuePatProp`, `AssignPatProp`.
+    /// Returns the `key` of `ClassMethod`, `ClassProp`, `AutoAccessor`, `TsPropertySignature`,
+    /// `TsGetterSignature`, `TsSetterSignature`, `TsMethodSignature`, `KeyValuePatProp`,
+    /// `AssignPatProp`.
     pub fn key(self) -> Option<NodeRef<'a>>
         ensures { option_map node_view result ≡ child_in_field (node_view self.entry) key_child_of }
     {
@@ -217,7 +255,8 @@ impl<'a> NodeRef<'a> {
 
     /// Returns the `value` of `ClassProp`, `AutoAccessor`, `KeyValuePatProp`, `AssignPatProp`.
     pub fn value(self) -> Option<NodeRef<'a>>
-        ensures { option_map node_view result ≡ child_in_field (node_view self.entry) value_child_of }
+        ensures { option_map node_view result
+            ≡ child_in_field (node_view self.entry) value_child_of }
     {
         let child = kind_fields::value_of_kind(self.kind());
         NodeRef::node_in(self.tree, child)
@@ -225,7 +264,8 @@ impl<'a> NodeRef<'a> {
 
     /// Returns the `constraint` of a `TsTypeParam`.
     pub fn constraint(self) -> Option<NodeRef<'a>>
-        ensures { option_map node_view result ≡ child_in_field (node_view self.entry) constraint_child_of }
+        ensures { option_map node_view result
+            ≡ child_in_field (node_view self.entry) constraint_child_of }
     {
         let child = kind_fields::constraint_of_kind(self.kind());
         NodeRef::node_in(self.tree, child)
@@ -233,7 +273,8 @@ impl<'a> NodeRef<'a> {
 
     /// Returns the `default` of a `TsTypeParam`.
     pub fn default(self) -> Option<NodeRef<'a>>
-        ensures { option_map node_view result ≡ child_in_field (node_view self.entry) default_child_of }
+        ensures { option_map node_view result
+            ≡ child_in_field (node_view self.entry) default_child_of }
     {
         let child = kind_fields::default_of_kind(self.kind());
         NodeRef::node_in(self.tree, child)
@@ -249,7 +290,8 @@ impl<'a> NodeRef<'a> {
 
     /// Returns the `type_args` of `TsExprWithTypeArgs`, `TsTypeQuery`, `TsImportType`.
     pub fn type_args(self) -> Option<NodeRef<'a>>
-        ensures { option_map node_view result ≡ child_in_field (node_view self.entry) type_args_child_of }
+        ensures { option_map node_view result
+            ≡ child_in_field (node_view self.entry) type_args_child_of }
     {
         let child = kind_fields::type_args_of_kind(self.kind());
         NodeRef::node_in(self.tree, child)
@@ -257,7 +299,8 @@ impl<'a> NodeRef<'a> {
 
     /// Returns the `expr_name` of a `TsTypeQuery`.
     pub fn expr_name(self) -> Option<NodeRef<'a>>
-        ensures { option_map node_view result ≡ child_in_field (node_view self.entry) expr_name_child_of }
+        ensures { option_map node_view result
+            ≡ child_in_field (node_view self.entry) expr_name_child_of }
     {
         let child = kind_fields::expr_name_of_kind(self.kind());
         NodeRef::node_in(self.tree, child)
@@ -265,7 +308,8 @@ impl<'a> NodeRef<'a> {
 
     /// Returns the `qualifier` of a `TsImportType`.
     pub fn qualifier(self) -> Option<NodeRef<'a>>
-        ensures { option_map node_view result ≡ child_in_field (node_view self.entry) qualifier_child_of }
+        ensures { option_map node_view result
+            ≡ child_in_field (node_view self.entry) qualifier_child_of }
     {
         let child = kind_fields::qualifier_of_kind(self.kind());
         NodeRef::node_in(self.tree, child)
@@ -273,7 +317,8 @@ impl<'a> NodeRef<'a> {
 
     /// Returns the `label` of a `TsTupleElement`.
     pub fn label(self) -> Option<NodeRef<'a>>
-        ensures { option_map node_view result ≡ child_in_field (node_view self.entry) label_child_of }
+        ensures { option_map node_view result
+            ≡ child_in_field (node_view self.entry) label_child_of }
     {
         let child = kind_fields::label_of_kind(self.kind());
         NodeRef::node_in(self.tree, child)
@@ -281,7 +326,8 @@ impl<'a> NodeRef<'a> {
 
     /// Returns the `left` of `TsQualifiedName`, `Assign`, `AssignPat`.
     pub fn left(self) -> Option<NodeRef<'a>>
-        ensures { option_map node_view result ≡ child_in_field (node_view self.entry) left_child_of }
+        ensures { option_map node_view result
+            ≡ child_in_field (node_view self.entry) left_child_of }
     {
         let child = kind_fields::left_of_kind(self.kind());
         NodeRef::node_in(self.tree, child)
@@ -297,7 +343,8 @@ impl<'a> NodeRef<'a> {
 
     /// Returns the `prop` of a `Member`.
     pub fn prop(self) -> Option<NodeRef<'a>>
-        ensures { option_map node_view result ≡ child_in_field (node_view self.entry) prop_child_of }
+        ensures { option_map node_view result
+            ≡ child_in_field (node_view self.entry) prop_child_of }
     {
         let child = kind_fields::prop_of_kind(self.kind());
         NodeRef::node_in(self.tree, child)
@@ -305,7 +352,8 @@ impl<'a> NodeRef<'a> {
 
     /// Returns the `right` of `Assign`, `AssignPat`.
     pub fn right(self) -> Option<NodeRef<'a>>
-        ensures { option_map node_view result ≡ child_in_field (node_view self.entry) right_child_of }
+        ensures { option_map node_view result
+            ≡ child_in_field (node_view self.entry) right_child_of }
     {
         let child = kind_fields::right_of_kind(self.kind());
         NodeRef::node_in(self.tree, child)

@@ -3,8 +3,10 @@
 
 ghost use Rattle.std.specs.Prelude.{◌≡◌, ◌∷◌, [], OnOk, ◌++◌};
 ghost use Rattle.std.specs.List.{flat_map};
-ghost use Rattle.symbols_ast.specs.Fields.{fields, item_fields, decl_fields, member_fields, ty_fields, expr_fields, pat_fields};
-ghost use Rattle.symbols_ast.specs.FieldViews.{field_view, field_views, field_of_one_child, field_of_optional_child, field_of_children};
+ghost use Rattle.symbols_ast.specs.Fields.{fields, item_fields, decl_fields, member_fields, ty_fields, expr_fields};
+ghost use Rattle.symbols_ast.specs.Fields.{pat_fields};
+ghost use Rattle.symbols_ast.specs.FieldViews.{field_view, field_views, field_of_one_child, field_of_optional_child};
+ghost use Rattle.symbols_ast.specs.FieldViews.{field_of_children};
 
 use crate::tree::categories::Category;
 use crate::tree::field::{Fields, many, one, optional, slots};

@@ -2,10 +2,19 @@
 //! The fields of a kind that hold children, by their names: of a kind without the field none.
 
 ghost use Rattle.std.specs.Prelude.{◌≡◌};
-ghost use Rattle.symbols_ast.specs.ChildFields.{body_children_of, specifier_children_of, local_child_of, decl_child_of, orig_child_of, expr_child_of, id_child_of, entity_child_of, ident_child_of, class_child_of, type_params_child_of, super_class_child_of, super_type_params_child_of, implements_children_of, function_child_of, param_children_of, return_type_child_of, body_child_of, decl_children_of, name_child_of, init_child_of, extends_children_of, type_ann_child_of, member_children_of, param_child_of, key_child_of, value_child_of, constraint_child_of, default_child_of, ty_child_of, type_args_child_of, expr_name_child_of, qualifier_child_of, label_child_of, left_child_of, obj_child_of, prop_child_of, right_child_of, elem_children_of, prop_children_of, arg_child_of, children_field_of};
+ghost use Rattle.symbols_ast.specs.Fields.{body_children_of, specifier_children_of, local_child_of, decl_child_of};
+ghost use Rattle.symbols_ast.specs.Fields.{orig_child_of, expr_child_of, id_child_of, entity_child_of, ident_child_of};
+ghost use Rattle.symbols_ast.specs.Fields.{class_child_of, type_params_child_of, super_class_child_of};
+ghost use Rattle.symbols_ast.specs.Fields.{super_type_params_child_of, implements_children_of, function_child_of};
+ghost use Rattle.symbols_ast.specs.Fields.{param_children_of, return_type_child_of, body_child_of, decl_children_of};
+ghost use Rattle.symbols_ast.specs.Fields.{name_child_of, init_child_of, extends_children_of, type_ann_child_of};
+ghost use Rattle.symbols_ast.specs.Fields.{member_children_of, param_child_of, key_child_of, value_child_of};
+ghost use Rattle.symbols_ast.specs.Fields.{constraint_child_of, default_child_of, ty_child_of, type_args_child_of};
+ghost use Rattle.symbols_ast.specs.Fields.{expr_name_child_of, qualifier_child_of, label_child_of, left_child_of};
+ghost use Rattle.symbols_ast.specs.Fields.{obj_child_of, prop_child_of, right_child_of, elem_children_of};
+ghost use Rattle.symbols_ast.specs.Fields.{prop_children_of, arg_child_of, children_field_of};
 
-use crate::tree::arena::NodeId;
-use crate::tree::kinds::{Decl, Expr, Item, Kind, Member, Pat, Ty};
+use crate::tree::{Decl, Expr, Item, Kind, Member, NodeId, Pat, Ty};
 
 pub(crate) fn body_of_kind(kind: &Kind) -> &[NodeId]
     ensures { result.now ≡ body_children_of kind.now }

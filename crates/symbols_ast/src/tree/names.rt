@@ -2,7 +2,8 @@
 //! The names of the kinds.
 
 ghost use Rattle.std.specs.Prelude.{◌≡◌};
-ghost use Rattle.symbols_ast.specs.Names.{kind_name, item_kind_name, decl_kind_name, member_kind_name, ty_kind_name, expr_kind_name, pat_kind_name};
+ghost use Rattle.symbols_ast.specs.Kinds.{kind_name, item_kind_name, decl_kind_name, member_kind_name, ty_kind_name};
+ghost use Rattle.symbols_ast.specs.Kinds.{expr_kind_name, pat_kind_name};
 
 use crate::tree::kinds::{Decl, Expr, Item, Kind, Member, Pat, Ty};
 

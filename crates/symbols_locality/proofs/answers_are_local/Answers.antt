@@ -1,5 +1,4 @@
-use Rattle.symbols_locality.proofs.ComputedAnswers.{same_query_answer}
-use Rattle.symbols_locality.proofs.SameAnswers.{same_answer}
+use Rattle.symbols_locality.proofs.SameAnswers.{same_query_answer, same_answer}
 use Rattle.symbols_locality.proofs.answers_are_local.Goals as goal
 
 pub returns-clause-answers : goal.returns-clause-answers

@@ -108,8 +108,8 @@ fn str_literal_value(kind: &Kind) -> Option<&str>
 }
 
 fn bracket_text<'a>(prop: NodeRef<'a>, expr: NodeId) -> Option<&'a str>
-    ensures { option_copied result
-        ≡ option_and_then str_literal_value (evaluate_node_of_greater_number kind_of (node_view prop.entry) expr) }
+    ensures { option_copied result ≡ option_and_then str_literal_value
+        (evaluate_node_of_greater_number kind_of (node_view prop.entry) expr) }
 {
     str_literal_value(node_of_greater_number(prop, expr)?.kind())
 }
@@ -117,7 +117,8 @@ fn bracket_text<'a>(prop: NodeRef<'a>, expr: NodeId) -> Option<&'a str>
 /// Returns the property as a part of a dotted name. It is `None` for a computed key other than a
 /// string.
 fn dotted_name_part_of_member_prop<'a>(prop: NodeRef<'a>) -> Option<Part<'a>>
-    ensures { option_map dotted_name_part_view result ≡ dotted_name_part_of_member_prop (node_view prop.entry) }
+    ensures { option_map dotted_name_part_view result
+        ≡ dotted_name_part_of_member_prop (node_view prop.entry) }
 {
     match prop.kind() {
         Kind::Expr(Expr::IdentName { name }) => Some(Part::Text(name.as_str())),

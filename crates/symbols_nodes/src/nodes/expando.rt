@@ -109,8 +109,8 @@ fn find_parts<'a>(node: NodeRef<'a>) -> Option<Parts<'a>>
 impl<'a> ExpandoPropertyRef<'a> {
     /// Returns the assignment as an expando property. It is `None` if the node is not of that form.
     pub fn maybe_new(node: NodeRef<'a>) -> Option<ExpandoPropertyRef<'a>>
-        ensures { option_map expando_property_view result
-            ≡ option_map (λ _. node_view node.entry) (expando_of_assignment (node_view node.entry)) }
+        ensures { option_map expando_property_view result ≡ option_map
+            (λ _. node_view node.entry) (expando_of_assignment (node_view node.entry)) }
     {
         match find_parts(node) {
             Some(_) => Some(ExpandoPropertyRef { inner: node }),
@@ -119,7 +119,8 @@ impl<'a> ExpandoPropertyRef<'a> {
     }
 
     fn all_parts(self) -> Parts<'a>
-        ensures { Some (expando_view result) ≡ expando_of_assignment (expando_property_view self.entry) }
+        ensures { Some (expando_view result)
+            ≡ expando_of_assignment (expando_property_view self.entry) }
     {
         match find_parts(self.inner) {
             Some(parts) => parts,
@@ -136,24 +137,24 @@ impl<'a> ExpandoPropertyRef<'a> {
 
     /// Returns the member expression on the left.
     pub fn member_expr(self) -> NodeRef<'a>
-        ensures { Some (node_view result)
-            ≡ option_map (λ (e : Expando). e.member) (expando_of_assignment (expando_property_view self.entry)) }
+        ensures { Some (node_view result) ≡ option_map
+            (λ (e : Expando). e.member) (expando_of_assignment (expando_property_view self.entry)) }
     {
         self.all_parts().member
     }
 
     /// Returns the identifier of the object that the property is added to.
     pub fn obj_ident(self) -> NodeRef<'a>
-        ensures { Some (node_view result)
-            ≡ option_map (λ (e : Expando). e.object) (expando_of_assignment (expando_property_view self.entry)) }
+        ensures { Some (node_view result) ≡ option_map
+            (λ (e : Expando). e.object) (expando_of_assignment (expando_property_view self.entry)) }
     {
         self.all_parts().object
     }
 
     /// Returns the name of the property.
     pub fn prop_name(self) -> &'a str
-        ensures { Some result.now
-            ≡ option_map (λ (e : Expando). e.name) (expando_of_assignment (expando_property_view self.entry)) }
+        ensures { Some result.now ≡ option_map
+            (λ (e : Expando). e.name) (expando_of_assignment (expando_property_view self.entry)) }
     {
         self.all_parts().name
     }
@@ -168,8 +169,8 @@ impl<'a> ExpandoPropertyRef<'a> {
 
     /// Returns the assigned expression.
     pub fn assignment(self) -> NodeRef<'a>
-        ensures { Some (node_view result)
-            ≡ option_map (λ (e : Expando). e.right) (expando_of_assignment (expando_property_view self.entry)) }
+        ensures { Some (node_view result) ≡ option_map
+            (λ (e : Expando). e.right) (expando_of_assignment (expando_property_view self.entry)) }
     {
         self.all_parts().right
     }

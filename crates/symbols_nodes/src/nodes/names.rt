@@ -4,7 +4,7 @@ ghost use Rattle.std.specs.Prelude.{◌≡◌, ◌++◌, Some, None, IfOk, IsOkA
 ghost use Rattle.std.specs.Option.{option_map, option_copied, option_and_then};
 ghost use Rattle.std.specs.Cow.{cow_str_bytes};
 ghost use Rattle.symbols_ast.specs.NodeRefs.{node_view, kind_of};
-ghost use Rattle.symbols_ast.specs.ChildFields.{ident_child_of, id_child_of, key_child_of, expr_child_of};
+ghost use Rattle.symbols_ast.specs.Fields.{ident_child_of, id_child_of, key_child_of, expr_child_of};
 ghost use Rattle.symbols_nodes.specs.NodeViews.{export_decl_view, symbol_node_view};
 ghost use Rattle.symbols_nodes.specs.NodeNames.{ident_or_literal_text, child_text, key_name_by_kind};
 ghost use Rattle.symbols_nodes.specs.NodeNames.{key_name};
@@ -60,8 +60,8 @@ fn borrowed_text<'a>(text: Option<&'a str>) -> Option<CowStr<'a>>
 /// Returns the name of a key; `None` for a big integer, and for a computed key that is no name or
 /// literal.
 fn key_name_by_kind<'a>(alloc: Global, key: NodeRef<'a>) -> Result<Option<CowStr<'a>>, AllocError>
-    ensures { IfOk result (λ name. option_map cow_str_bytes name
-        ≡ option_and_then (key_name_by_kind (node_view key.entry)) (kind_of (node_view key.entry))) }
+    ensures { IfOk result (λ name. option_map cow_str_bytes name ≡ option_and_then
+        (key_name_by_kind (node_view key.entry)) (kind_of (node_view key.entry))) }
 {
     match key.kind() {
         Kind::Expr(Expr::PrivateName { name }) => {
@@ -171,8 +171,8 @@ impl<'a> ExportDeclRef<'a> {
     /// Returns the name of the declaration: its identifier, or the string that names a module (own
     /// name: deno_graph has it on the node, which also explains the result type). It never fails.
     pub fn maybe_name(self, _: Global) -> Result<Option<CowStr<'a>>, AllocError>
-        ensures { IsOkAnd result
-            (λ name. option_map cow_str_bytes name ≡ export_decl_name (export_decl_view self.entry)) }
+        ensures { IsOkAnd result (λ name. option_map cow_str_bytes name
+            ≡ export_decl_name (export_decl_view self.entry)) }
     {
         Ok(borrowed_text(export_decl_name(self)))
     }

@@ -3,7 +3,7 @@
 ghost use Rattle.std.specs.Prelude.{◌≡◌, true, false};
 ghost use Rattle.std.specs.Option.{option_and_then, option_copied};
 ghost use Rattle.symbols_ast.specs.NodeRefs.{node_view, kind_of, child_in_field};
-ghost use Rattle.symbols_ast.specs.ChildFields.{decl_child_of};
+ghost use Rattle.symbols_ast.specs.Fields.{decl_child_of};
 ghost use Rattle.symbols_nodes.specs.NodeViews.{export_decl_view, symbol_node_view};
 ghost use Rattle.symbols_nodes.specs.NodeTests.{is_exported_class, is_class_exported_or_not, is_exported_function};
 ghost use Rattle.symbols_nodes.specs.NodeTests.{is_function_exported_or_not, is_exported_interface};
@@ -40,7 +40,8 @@ fn has_function_body(node: NodeRef<'_>) -> bool
 }
 
 fn default_decl_has_body(decl: NodeRef<'_>) -> bool
-    ensures { result ≡ default_decl_has_body (node_view decl.entry) (kind_of (node_view decl.entry)) }
+    ensures { result ≡ default_decl_has_body
+        (node_view decl.entry) (kind_of (node_view decl.entry)) }
 {
     match decl.kind() {
         Kind::Decl(Decl::FnExpr { .. }) => has_function_body(decl),

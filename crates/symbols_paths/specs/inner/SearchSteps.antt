@@ -1,5 +1,5 @@
 -- The contracts of the steps of a search. `running` has the aliases that are being resolved, which the code calls `resolving`.
-use Rattle.std.specs.Prelude.{◌≡◌, ℕ, ◌<◌, ◌≤◌, ◌^◌, List, length, map, All, Some, None, Contains, slice_get, Result, OnOk}
+use Rattle.std.specs.Prelude.{◌≡◌, ℕ, ◌<◌, ◌≤◌, ◌^◌, List, [], length, map, All, Some, None, Contains, slice_get}
 use Rattle.symbols_ast.specs.declared.ids.ModuleId.{ModuleId}
 use Rattle.symbols_ast.specs.declared.ids.UniqueSymbolId.{UniqueSymbolId}
 use Rattle.symbols_ast.specs.Graph.{GraphView}
@@ -26,7 +26,7 @@ use Rattle.symbols_paths.specs.Computed.{search_limit}
 use Rattle.symbols_paths.specs.Views.{decl_by_specifier, unresolved_entry_view, star_import_view}
 use Rattle.symbols_paths.specs.Views.{AreModulesStored}
 use Rattle.symbols_paths.specs.inner.Views.{symbol_of_unique_id}
-use Rattle.symbols_paths.specs.inner.PathBuilders.{remaining_parts, built_paths}
+use Rattle.symbols_paths.specs.inner.PathBuilders.{remaining_parts, built_paths, modules_of_builders}
 use Rattle.symbols_paths.specs.NeededModules.{IsFaultOfStoringOneOf}
 
 -- the target of a declaration, as the code returns it
@@ -77,20 +77,6 @@ pub record AreVisitedGrownAndModulesStored (root : RootView) (before after : Lis
 abbrev pub AreModulesOfAliasesStored : RootView → List AliasDecl → Type 0
 AreModulesOfAliasesStored root running = All (λ (d : AliasDecl). d.«module».0 < length root.stored) running
 
--- before a search in this module: it is stored, and so are the modules of the visited symbols and of the aliases being resolved
-pub record AreModulesStoredBeforeSearch (root : RootView) (module_id : ModuleId) (before : List UniqueSymbolId) (running : List AliasDecl) : Type 0 where
-  pub known : IsStored root module_id
-  pub visited : AreModulesOfSymbolsStored root before
-  pub resolving : AreModulesOfAliasesStored root running
-
--- after a search that may need these modules: the root keeps what each call keeps, a fault is of one of them or of a failed allocation, and a
--- result leaves the aliases being resolved as they were
-pub record FailsOnlyStoringAndRestoresAliases {A : Type 0} (old new : RootView) (these : List ℕ → Type 0) (running after : List AliasDecl)
-    (result : Result A SymbolsFault) : Type 0
-  where
-    pub keeps : HasGrownAndFailsOnlyFor old new (IsFaultOfStoringOneOf new these) result
-    pub same : OnOk result (after ≡ running)
-
 abbrev pub decl_of_alias : RootView → AliasDecl → DeclBySpecifier
 decl_of_alias root d = decl_by_specifier root d.«module» d.decl
 
@@ -121,3 +107,9 @@ abbrev pub ArePathsFoundWithParts : RootView → List AliasDecl → List UniqueS
 ArePathsFoundWithParts root running before s parts paths after = (later : RootView) → HasGrown root later
     → IsOutcomeOfSearchWithParts (search_targets_of_root later) search_limit (decls_of_aliases
     later running) (symbols_of_unique_ids later before) (symbol_of_unique_id later s) parts (built_paths later paths) (symbols_of_unique_ids later after)
+
+-- a symbol has these paths under parts, by a search that begins with no visited symbol and no alias being resolved
+pub record ArePathsFoundByNewSearch (root : RootView) (s : UniqueSymbolId) (parts : QualifiedNameParts) (paths : List PathBuilder) : Type 0 where
+  pub after : List UniqueSymbolId
+  pub found : ArePathsFoundWithParts root [] [] s parts paths after
+  pub searched : AreVisitedGrownAndModulesStored root [] after (modules_of_builders paths)

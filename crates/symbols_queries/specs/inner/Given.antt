@@ -2,10 +2,8 @@
 use Rattle.std.specs.Prelude.{◌≡◌, ℕ, List, Some}
 use Rattle.symbols_root.specs.Roots.{RootView}
 use Rattle.symbols_answers.specs.Questions.{QuestionView, QueryView}
-use Rattle.symbols_answers.specs.Answers.{AnswerView}
-use Rattle.symbols_answers.specs.QueryAnswers.{question_answer, query_answer}
-use Rattle.symbols_answers.specs.Meanings.{IsAnswerToQuestion, IsAnswerToQuery}
-use Rattle.symbols_answers.specs.Stored.{AreAnswerModulesStored, AreQueryModulesStored}
+use Rattle.symbols_answers.specs.Answers.{AnswerView, question_answer, query_answer, IsAnswerToQuestion, IsAnswerToQuery, AreAnswerModulesStored}
+use Rattle.symbols_answers.specs.Answers.{AreQueryModulesStored}
 
 -- an answer to a question on a stored module
 pub record IsQuestionAnswerReturned (old new : RootView) (specifier : List ℕ) (question : QuestionView) (answer : AnswerView) : Type 0 where

@@ -5,8 +5,8 @@ use Rattle.symbols_table.specs.declared.info.fault.SymbolsFault.TheVariants.{Out
 use Rattle.symbols_root.specs.Roots.{RootView, widest_limits, IsStoringFault}
 use Rattle.symbols_root.specs.Growing.{HasGrown}
 use Rattle.symbols_answers.specs.Questions.{QuestionView}
-use Rattle.symbols_answers.specs.QueryAnswers.{question_answer}
-use Rattle.symbols_queries.specs.QueryFaults.{IsOtherModuleNeededByQuestion}
+use Rattle.symbols_answers.specs.Answers.{question_answer}
+use Rattle.symbols_queries.specs.Queries.{IsOtherModuleNeededByQuestion}
 
 -- the stored module has no such symbol: nothing changes
 pub record IsUnknownSymbolQuestionFault (old new : RootView) (specifier : List ℕ) (question : QuestionView) (fault : SymbolsFault) : Type 0 where

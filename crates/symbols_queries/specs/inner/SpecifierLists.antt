@@ -6,7 +6,7 @@ use Rattle.symbols_root.specs.Roots.{RootView}
 use Rattle.symbols_root.specs.Calls.{HasGrownAndFailsOnlyFor}
 use Rattle.symbols_paths.specs.NeededModules.{IsFaultOfStoringOneOf, AreNewlyStoredAmong}
 use Rattle.symbols_answers.specs.Questions.{QueryView}
-use Rattle.symbols_queries.specs.QueryFaults.{IsNeededForInputs}
+use Rattle.symbols_queries.specs.Queries.{IsNeededForInputs}
 
 -- the specifiers in a set
 abbrev pub specifiers_of_keys : List (Bor (List ℕ)) → List (List ℕ)

@@ -33,8 +33,8 @@ use symbols_nodes::nodes::SymbolNodeRef;
 fn begin<'a>(setting: Setting, decl: SymbolDecl<'a>) -> Result<ModuleBuilder<'a>, BuildFault>
     ensures setting { IfOk result (λ builder. builder.setting ≡ setting) }
     ensures module { IfOk result (λ builder. length builder.symbols.items ≡ 1) }
-    ensures table { IfOk result
-        (λ builder. HasAppliedChanges builder (changes_of_events (begins (decl_view decl.entry) ∷ []))) }
+    ensures table { IfOk result (λ builder. HasAppliedChanges builder
+        (changes_of_events (begins (decl_view decl.entry) ∷ []))) }
     ensures too_many { IfErr result (λ fault. fault ≡ TooManySymbols → setting.limit ≡ 0) }
 {
     let alloc = setting.alloc;
@@ -147,7 +147,8 @@ fn build_module<'a>(
     setting: Setting,
     graph_module: &'a GraphModule,
 ) -> Result<Option<ModuleInfo<'a>>, BuildFault>
-    ensures table { IfOk result (IsAnalysisResult setting.module_id graph_module.now setting.limit) }
+    ensures table { IfOk result
+        (IsAnalysisResult setting.module_id graph_module.now setting.limit) }
     ensures too_many { IfErr result (λ fault. fault ≡ TooManySymbols
         → HasTooManySymbols graph_module.now setting.limit) }
     ensures enough { IfErr result (λ fault. fault ≡ TooManySymbols → setting.limit < 4294967295) }

@@ -64,7 +64,8 @@ pub(crate) fn declared_as<'a>(
 
 /// Returns the range of the `export`, or of the declaration if it has no `export`.
 pub(crate) fn export_or_decl_range(exported: Option<NodeRef<'_>>, node: NodeRef<'_>) -> SourceRange
-    ensures { result ≡ export_or_decl_range (option_map node_view exported.entry) (node_view node.entry) }
+    ensures { result ≡ export_or_decl_range
+        (option_map node_view exported.entry) (node_view node.entry) }
 {
     match exported {
         Some(exported) => exported.range(),
@@ -95,8 +96,8 @@ pub(crate) fn declared_name<'a>(node: NodeRef<'a>) -> Option<&'a Id>
 
 /// Returns the declaration if it is a class, a function, an interface, a type alias or an enum.
 fn export_decl_view_of_kind<'a>(node: NodeRef<'a>) -> Option<ExportDeclRef<'a>>
-    ensures { Some (option_map export_decl_view result)
-        ≡ option_map (export_decl_view_of_kind (node_view node.entry)) (kind_of (node_view node.entry)) }
+    ensures { Some (option_map export_decl_view result) ≡ option_map
+        (export_decl_view_of_kind (node_view node.entry)) (kind_of (node_view node.entry)) }
 {
     match node.kind() {
         Kind::Decl(Decl::ClassDecl { .. }) => Some(ExportDeclRef::Class(node)),
@@ -156,10 +157,11 @@ impl<'a> ModuleBuilder<'a> {
         requires symbol { symbol.0 < length self.old.symbols.items }
         requires inner { 0 < symbol.0 }
         ensures keeps { LeavesValidTableWithNoFewerSymbols result self.old self.new }
-        ensures table { (rows : List EventEffect) (h s : ℕ) → HasAppliedChanges self.old (changes_of_effects rows)
+        ensures table { (rows : List EventEffect) (h s : ℕ)
+            → HasAppliedChanges self.old (changes_of_effects rows)
             → symbol_of_event_at rows h ≡ Some holder → symbol_of_event_at rows s ≡ Some symbol
-            → AppliesEffects result self.old.setting.limit self.new (effects_after_events rows
-            (export_event_if is_exported h name.now s)) }
+            → AppliesEffects result self.old.setting.limit self.new
+            (effects_after_events rows (export_event_if is_exported h name.now s)) }
     {
         if is_exported {
             self.add_export(holder, name, symbol)?;
@@ -180,10 +182,11 @@ impl<'a> ModuleBuilder<'a> {
         requires symbol { symbol.0 < length self.old.symbols.items }
         requires inner { 0 < symbol.0 }
         ensures keeps { LeavesValidTableWithNoFewerSymbols result self.old self.new }
-        ensures table { (rows : List EventEffect) (h s : ℕ) → HasAppliedChanges self.old (changes_of_effects rows)
+        ensures table { (rows : List EventEffect) (h s : ℕ)
+            → HasAppliedChanges self.old (changes_of_effects rows)
             → symbol_of_event_at rows h ≡ Some holder → symbol_of_event_at rows s ≡ Some symbol
-            → AppliesEffects result self.old.setting.limit self.new (effects_after_events rows
-            (child_and_export_events is_exported h name.now s)) }
+            → AppliesEffects result self.old.setting.limit self.new
+            (effects_after_events rows (child_and_export_events is_exported h name.now s)) }
     {
         self.add_child(holder, symbol)?;
         self.export_event_if(holder, symbol, name, is_exported)
@@ -200,7 +203,8 @@ impl<'a> ModuleBuilder<'a> {
         requires filled { HasValidTable self.old }
         requires holder { holder.0 < length self.old.symbols.items }
         ensures keeps { LeavesValidTableWithNoFewerSymbols result self.old self.new }
-        ensures table { AppliesEventsUnderHolder result self.old self.new (declare_and_add_events is_exported
+        ensures table { AppliesEventsUnderHolder result self.old self.new
+            (declare_and_add_events is_exported
             (id_view id.now) (decl_view decl.entry) no_events_by_holder_and_start) holder }
     {
         let symbol = self.declare(holder, id, decl)?;
@@ -218,8 +222,8 @@ impl<'a> ModuleBuilder<'a> {
         requires filled { HasValidTable self.old }
         requires holder { holder.0 < length self.old.symbols.items }
         ensures keeps { LeavesValidTableWithNoFewerSymbols result self.old self.new }
-        ensures table { AppliesEventsUnderHolder result self.old self.new
-            (binding_events_at (variable_statement_view variables.entry) (node_view declarator.entry) n) holder }
+        ensures table { AppliesEventsUnderHolder result self.old self.new (binding_events_at
+            (variable_statement_view variables.entry) (node_view declarator.entry) n) holder }
     {
         let Some(ident) = variables.decl.node(n) else {
             return Ok(());
@@ -248,9 +252,9 @@ impl<'a> ModuleBuilder<'a> {
         requires filled { HasValidTable self.old }
         requires holder { holder.0 < length self.old.symbols.items }
         ensures keeps { LeavesValidTableWithNoFewerSymbols result self.old self.new }
-        ensures table { AppliesEventsUnderHolder result self.old self.new (events_of_each
-            (binding_events_at (variable_statement_view variables.entry) (node_view declarator.entry)) names.now)
-            holder }
+        ensures table { AppliesEventsUnderHolder result self.old self.new
+            (events_of_each (binding_events_at (variable_statement_view variables.entry)
+            (node_view declarator.entry)) names.now) holder }
     {
         for n in names {
             self.walk_binding(holder, variables, declarator, *n)?;

@@ -41,10 +41,10 @@ impl<'a> ModuleBuilder<'a> {
         ensures inside { IfOk result (λ s. s.0 < length self.new.symbols.items) }
         ensures inner { IfOk result (λ s. 0 < s.0) }
         ensures keeps { LeavesValidTableWithNoFewerSymbols result self.old self.new }
-        ensures table { (changes : List Change) → HasAppliedChanges self.old changes
-            → AppliesEffectAndReturnsSymbol result (λ s. Some s) self.old.setting.limit self.new changes
-            (new_symbol_effect changes (Some holder) (decl_view decl.entry)
-            (λ s. maps (id_view id.now) s ∷ [])) }
+        ensures table { (changes : List Change)
+            → HasAppliedChanges self.old changes → AppliesEffectAndReturnsSymbol result
+            (λ s. Some s) self.old.setting.limit self.new changes (new_symbol_effect changes
+            (Some holder) (decl_view decl.entry) (λ s. maps (id_view id.now) s ∷ [])) }
     {
         let symbol = self.add_symbol(Some(holder), decl)?;
         self.map_id(id, symbol)?;
@@ -65,8 +65,8 @@ impl<'a> ModuleBuilder<'a> {
         ensures inner { IfOk result (λ s. 0 < s.0) }
         ensures keeps { LeavesValidTableWithNoFewerSymbols result self.old self.new }
         ensures table { (changes : List Change) → HasAppliedChanges self.old changes
-            → AppliesEffectAndReturnsSymbol result (λ s. Some s) self.old.setting.limit self.new changes (declare_effect
-            changes holder (id_view id.now) (decl_view decl.entry)) }
+            → AppliesEffectAndReturnsSymbol result (λ s. Some s) self.old.setting.limit self.new
+            changes (declare_effect changes holder (id_view id.now) (decl_view decl.entry)) }
     {
         if let Some(symbol) = self.mapped_symbol(id) {
             self.add_decl(symbol, decl)?;
@@ -123,11 +123,11 @@ impl<'a> ModuleBuilder<'a> {
         ensures inside { IfOk result (λ s. s.0 < length self.new.symbols.items) }
         ensures inner { IfOk result (λ s. 0 < s.0) }
         ensures keeps { LeavesValidTableWithNoFewerSymbols result self.old self.new }
-        ensures table { (changes : List Change) → HasAppliedChanges self.old changes
-            → AppliesEffectAndReturnsSymbol result (λ s. Some s) self.old.setting.limit self.new changes
-            (new_symbol_effect changes (Some holder) (decl_view decl.entry)
-            (λ s. exports holder default_export_name s ∷ (if is_definition (decl_view decl.entry).kind
-            then adds_child holder s ∷ [] else []))) }
+        ensures table { (changes : List Change)
+            → HasAppliedChanges self.old changes → AppliesEffectAndReturnsSymbol result (λ s.
+            Some s) self.old.setting.limit self.new changes (new_symbol_effect changes (Some holder)
+            (decl_view decl.entry) (λ s. exports holder default_export_name s ∷ (if is_definition
+            (decl_view decl.entry).kind then adds_child holder s ∷ [] else []))) }
     {
         let is_definition = decl.kind.is_definition();
         let symbol = self.add_symbol(Some(holder), decl)?;
@@ -170,8 +170,8 @@ impl<'a> ModuleBuilder<'a> {
         requires holder { key.now.holder.0 < length self.now.symbols.items }
         requires inner { 0 < key.now.holder.0 }
         ensures table { (changes : List Change) → HasAppliedChanges self.now changes
-            → result
-            ≡ find_member_symbol changes key.now.holder is_static (Some (cow_str_bytes key.now.name)) }
+            → result ≡ find_member_symbol changes key.now.holder is_static
+            (Some (cow_str_bytes key.now.name)) }
         ensures inside { IfSome result (λ s. s.0 < length self.now.symbols.items) }
     {
         if !is_static {
@@ -196,8 +196,8 @@ impl<'a> ModuleBuilder<'a> {
         requires inner { 0 < symbol.0 }
         ensures keeps { LeavesSymbolCountUnchanged result self.old self.new }
         ensures table { OnOk result ((changes : List Change) → HasAppliedChanges self.old changes
-            → HasAppliedChanges self.new (changes ++ new_member_changes key.now.holder is_static (Some
-            (cow_str_bytes key.now.name)) symbol)) }
+            → HasAppliedChanges self.new (changes ++ new_member_changes key.now.holder is_static
+            (Some (cow_str_bytes key.now.name)) symbol)) }
         ensures full { IfErr result (λ fault. fault ≡ OutOfMemory) }
     {
         if !is_static {
@@ -219,8 +219,8 @@ impl<'a> ModuleBuilder<'a> {
         ensures inside { IfOk result (λ s. s.0 < length self.new.symbols.items) }
         ensures keeps { LeavesValidTableWithNoFewerSymbols result self.old self.new }
         ensures table { (changes : List Change) → HasAppliedChanges self.old changes
-            → AppliesEffectAndReturnsSymbol result (λ s. Some s) self.old.setting.limit self.new changes
-            (new_symbol_effect changes (Some key.now.holder) (decl_view decl.entry)
+            → AppliesEffectAndReturnsSymbol result (λ s. Some s) self.old.setting.limit
+            self.new changes (new_symbol_effect changes (Some key.now.holder) (decl_view decl.entry)
             (new_member_changes key.now.holder is_static (Some (cow_str_bytes key.now.name)))) }
     {
         let symbol = self.add_symbol(Some(key.holder), decl)?;
@@ -241,10 +241,10 @@ impl<'a> ModuleBuilder<'a> {
         requires inner { 0 < key.now.holder.0 }
         ensures inside { IfOk result (λ s. s.0 < length self.new.symbols.items) }
         ensures keeps { LeavesValidTableWithNoFewerSymbols result self.old self.new }
-        ensures table { (changes : List Change) → HasAppliedChanges self.old changes
-            → AppliesEffectAndReturnsSymbol result (λ s. Some s) self.old.setting.limit self.new changes
-            (named_member_effect changes key.now.holder (decl_view decl.entry) is_static
-            (Some (cow_str_bytes key.now.name))) }
+        ensures table { (changes : List Change)
+            → HasAppliedChanges self.old changes → AppliesEffectAndReturnsSymbol result
+            (λ s. Some s) self.old.setting.limit self.new changes (named_member_effect changes
+            key.now.holder (decl_view decl.entry) is_static (Some (cow_str_bytes key.now.name))) }
     {
         if let Some(symbol) = self.member_symbol(key, is_static) {
             self.add_decl(symbol, decl)?;
@@ -314,7 +314,8 @@ impl<'a> ModuleBuilder<'a> {
         requires filled { HasValidTable self.old }
         ensures keeps { LeavesValidTableWithNoFewerSymbols result self.old self.new }
         ensures table { (changes : List Change) → HasAppliedChanges self.old changes
-            → AppliesEffectChanges result self.old.setting.limit self.new changes (expando_effect changes
+            → AppliesEffectChanges result self.old.setting.limit self.new changes
+            (expando_effect changes
             (symbol_of_ident_after_changes changes (id_view id.now)) (decl_view decl.entry)) }
     {
         let Some(symbol) = self.mapped_symbol(id) else {

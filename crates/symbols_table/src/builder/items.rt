@@ -3,7 +3,7 @@
 ghost use Rattle.std.specs.Prelude.{◌≡◌, ℕ, suc, ◌+◌, ◌<◌, ◌≤◌, ◌||◌, List, length, IfOk, Some};
 ghost use Rattle.std.specs.Option.{option_map, option_copied, option_and_then};
 ghost use Rattle.symbols_ast.specs.NodeRefs.{node_view, kind_of, child_in_field};
-ghost use Rattle.symbols_ast.specs.ChildFields.{id_child_of, body_child_of};
+ghost use Rattle.symbols_ast.specs.Fields.{id_child_of, body_child_of};
 ghost use Rattle.symbols_ast.specs.WellFormed.{IsWellFormedTree};
 ghost use Rattle.symbols_table.specs.inner.NamespaceViews.{namespace_view};
 ghost use Rattle.symbols_table.specs.EventsByHolderAndStart.{events_if_some, id_of_ident_child};
@@ -97,8 +97,8 @@ impl<'a> ModuleBuilder<'a> {
         requires holder { holder.0 < length self.old.symbols.items }
         ensures inside { IfOk result (λ s. s.0 < length self.new.symbols.items) }
         ensures keeps { LeavesValidTableWithNoFewerSymbols result self.old self.new }
-        ensures table { (rows : List EventEffect) (h : ℕ) → HasAppliedChanges self.old (changes_of_effects rows)
-            → symbol_of_event_at rows h ≡ Some holder
+        ensures table { (rows : List EventEffect) (h : ℕ) → HasAppliedChanges self.old
+            (changes_of_effects rows) → symbol_of_event_at rows h ≡ Some holder
             → AppliesEventsAndReturnsSymbolOfFirst result self.old.setting.limit self.new rows
             (namespace_part_decl_events
             (node_view whole.entry) (node_view node.entry) id.now h (length rows)) }
@@ -127,9 +127,9 @@ impl<'a> ModuleBuilder<'a> {
         ensures keeps { LeavesValidTableWithNoFewerSymbols result self.old self.new }
         ensures table { (levels parts : ℕ) → length whole.entry.tree.now.nodes.items
             ≤ n + suc levels → length whole.entry.tree.now.nodes.items ≤ n + parts
-            → AppliesEventsUnderHolder result self.old self.new
-            (namespace_body_events_within_levels (item_list_events_within_levels whole.entry.tree.now
-            levels) (node_view whole.entry) ambient parts n) holder }
+            → AppliesEventsUnderHolder result self.old self.new (namespace_body_events_within_levels
+            (item_list_events_within_levels whole.entry.tree.now levels)
+            (node_view whole.entry) ambient parts n) holder }
     {
         let Some(node) = whole.node(n) else {
             return Ok(());
@@ -193,9 +193,9 @@ impl<'a> ModuleBuilder<'a> {
         ensures keeps { LeavesValidTableWithNoFewerSymbols result self.old self.new }
         ensures table { (levels : ℕ) → length namespace.entry.decl.tree.now.nodes.items
             ≤ namespace.entry.decl.number + suc levels
-            → AppliesEventsUnderHolder result self.old self.new (events_if_some
-            (kind_of (node_view namespace.entry.decl))
-            (namespace_events (item_list_events_within_levels namespace.entry.decl.tree.now levels) scope
+            → AppliesEventsUnderHolder result self.old self.new
+            (events_if_some (kind_of (node_view namespace.entry.decl)) (namespace_events
+            (item_list_events_within_levels namespace.entry.decl.tree.now levels) scope
             (namespace_view namespace.entry))) holder }
     {
         let Namespace { exported, decl } = namespace;
@@ -278,7 +278,8 @@ impl<'a> ModuleBuilder<'a> {
         items: &'a [NodeId],
     ) -> Result<(), BuildFault>
         requires well_formed { IsWellFormedTree parent.tree.now.nodes.items }
-        requires greater { AreGreaterNodeNumbers parent.tree.now.nodes.items parent.number items.now }
+        requires greater { AreGreaterNodeNumbers
+            parent.tree.now.nodes.items parent.number items.now }
         requires filled { HasValidTable self.old }
         requires holder { holder.0 < length self.old.symbols.items }
         ensures keeps { LeavesValidTableWithNoFewerSymbols result self.old self.new }

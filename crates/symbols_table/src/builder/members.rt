@@ -47,8 +47,8 @@ fn simple<'a>(form: SymbolNodeRef<'a>, is_static: bool) -> Option<SimpleMember<'
 
 /// Returns the node as a member other than a constructor or a parameter property, if it is one.
 fn node_of_non_constructor_member<'a>(node: NodeRef<'a>) -> Option<SimpleMember<'a>>
-    ensures { option_map member_view result
-        ≡ option_and_then (node_of_non_constructor_member (node_view node.entry)) (kind_of (node_view node.entry)) }
+    ensures { option_map member_view result ≡ option_and_then
+        (node_of_non_constructor_member (node_view node.entry)) (kind_of (node_view node.entry)) }
 {
     let Kind::Member(member) = node.kind() else {
         return None;
@@ -181,8 +181,8 @@ impl<'a> ModuleBuilder<'a> {
         requires holder { holder.0 < length self.old.symbols.items }
         requires inner { 0 < holder.0 }
         ensures keeps { LeavesValidTableWithNoFewerSymbols result self.old self.new }
-        ensures table { AppliesEventsUnderHolder result self.old self.new (member_events_at parent.entry.tree.now n)
-            holder }
+        ensures table { AppliesEventsUnderHolder result self.old self.new
+            (member_events_at parent.entry.tree.now n) holder }
     {
         let Some(node) = parent.node(n) else {
             return Ok(());

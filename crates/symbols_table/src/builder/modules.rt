@@ -174,8 +174,8 @@ impl<'a> ModuleBuilder<'a> {
         requires filled { HasValidTable self.old }
         requires holder { holder.0 < length self.old.symbols.items }
         ensures keeps { LeavesValidTableWithNoFewerSymbols result self.old self.new }
-        ensures table { AppliesEventsUnderHolder result self.old self.new
-            (events_of_each (import_specifier_events_at src.now node.entry.tree.now) specifiers.now) holder }
+        ensures table { AppliesEventsUnderHolder result self.old self.new (events_of_each
+            (import_specifier_events_at src.now node.entry.tree.now) specifiers.now) holder }
     {
         for n in specifiers {
             self.walk_import_specifier(holder, src, node, *n)?;
@@ -275,8 +275,9 @@ impl<'a> ModuleBuilder<'a> {
         requires filled { HasValidTable self.old }
         requires holder { holder.0 < length self.old.symbols.items }
         ensures keeps { LeavesValidTableWithNoFewerSymbols result self.old self.new }
-        ensures table { AppliesEventsUnderHolder result self.old self.new (events_of_each
-            (export_specifier_events_at (option_copied src.entry) node.entry.tree.now) specifiers.now) holder }
+        ensures table { AppliesEventsUnderHolder result self.old self.new
+            (events_of_each (export_specifier_events_at
+            (option_copied src.entry) node.entry.tree.now) specifiers.now) holder }
     {
         for n in specifiers {
             self.walk_export_name(holder, src, node, *n)?;
@@ -290,10 +291,10 @@ impl<'a> ModuleBuilder<'a> {
         requires symbol { symbol.0 < length self.old.symbols.items }
         requires inner { 0 < symbol.0 }
         ensures keeps { LeavesValidTableWithNoFewerSymbols result self.old self.new }
-        ensures table { OnOk result ((rows : List EventEffect) (s : ℕ)
-            → HasAppliedChanges self.old (changes_of_effects rows) → symbol_of_event_at rows s ≡ Some symbol
-            → HasAppliedChanges self.new (changes_of_effects
-            (effects_after_events rows (bind_events_if (declared_name (node_view decl.entry)) s)))) }
+        ensures table { OnOk result ((rows : List EventEffect) (s : ℕ) → HasAppliedChanges self.old
+            (changes_of_effects rows) → symbol_of_event_at rows s ≡ Some symbol
+            → HasAppliedChanges self.new (changes_of_effects (effects_after_events rows
+            (bind_events_if (declared_name (node_view decl.entry)) s)))) }
         ensures full { IfErr result (λ fault. fault ≡ OutOfMemory) }
     {
         match declared_name(decl) {
@@ -330,8 +331,8 @@ impl<'a> ModuleBuilder<'a> {
         requires filled { HasValidTable self.old }
         requires holder { holder.0 < length self.old.symbols.items }
         ensures keeps { LeavesValidTableWithNoFewerSymbols result self.old self.new }
-        ensures table { AppliesEventsUnderHolder result self.old self.new (default_export_events (decl_view decl.entry))
-            holder }
+        ensures table { AppliesEventsUnderHolder result self.old self.new
+            (default_export_events (decl_view decl.entry)) holder }
     {
         self.declare_default(holder, decl)?;
         Ok(())
@@ -394,8 +395,8 @@ impl<'a> ModuleBuilder<'a> {
         requires filled { HasValidTable self.old }
         requires holder { holder.0 < length self.old.symbols.items }
         ensures keeps { LeavesValidTableWithNoFewerSymbols result self.old self.new }
-        ensures table { AppliesEventsUnderHolder result self.old self.new (expando_events (node_view expr.entry))
-            holder }
+        ensures table { AppliesEventsUnderHolder result self.old self.new
+            (expando_events (node_view expr.entry)) holder }
     {
         let Some(expando) = ExpandoPropertyRef::maybe_new(expr) else {
             return Ok(());
@@ -417,8 +418,9 @@ impl<'a> ModuleBuilder<'a> {
         requires filled { HasValidTable self.old }
         requires holder { holder.0 < length self.old.symbols.items }
         ensures keeps { LeavesValidTableWithNoFewerSymbols result self.old self.new }
-        ensures table { AppliesEventsUnderHolder result self.old self.new (events_if_some
-            (kind_of (node_view node.entry)) (import_export_or_expando_events (node_view node.entry))) holder }
+        ensures table { AppliesEventsUnderHolder result self.old self.new
+            (events_if_some (kind_of (node_view node.entry))
+            (import_export_or_expando_events (node_view node.entry))) holder }
     {
         let Kind::Item(item) = node.kind() else {
             return Ok(());

@@ -34,10 +34,9 @@ fn pattern_parts(kind: &Kind) -> &[NodeId]
 /// Appends the identifiers that a pattern binds.
 fn add_leaves(node: NodeRef<'_>, leaves: &mut Vec<NodeId>) -> Result<(), AllocError>
     requires { IsWellFormedTree node.tree.now.nodes.items }
-    ensures { OnOk result ((levels : ℕ)
-        → length node.entry.tree.now.nodes.items ≤ node.entry.number + levels
-        → leaves.new.items
-        ≡ leaves.old.items ++ pattern_bindings_within_levels node.entry.tree.now levels node.entry.number) }
+    ensures { OnOk result ((levels : ℕ) → length node.entry.tree.now.nodes.items
+        ≤ node.entry.number + levels → leaves.new.items ≡ leaves.old.items
+        ++ pattern_bindings_within_levels node.entry.tree.now levels node.entry.number) }
 {
     let kind = node.kind();
     if is_identifier_pattern(kind) {

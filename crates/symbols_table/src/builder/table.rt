@@ -115,9 +115,9 @@ impl<'a> ModuleBuilder<'a> {
         ensures setting { self.new.setting ≡ self.old.setting }
         ensures longer { OnOk result
             (length self.new.symbols.items ≡ length self.old.symbols.items + 1) }
-        ensures table { IfOk result (λ s. (changes : List Change) → HasAppliedChanges self.old changes
-            → HasAppliedChanges self.new ((changes ++ adds_symbol parent ∷ [])
-            ++ adds_decl s (decl_view decl.entry) ∷ [])) }
+        ensures table { IfOk result (λ s. (changes : List Change)
+            → HasAppliedChanges self.old changes → HasAppliedChanges self.new
+            ((changes ++ adds_symbol parent ∷ []) ++ adds_decl s (decl_view decl.entry) ∷ [])) }
         ensures full { IfErr result (λ fault. fault ≡ TooManySymbols
             → self.old.setting.limit ≤ length self.old.symbols.items) }
     {
@@ -171,8 +171,9 @@ impl<'a> ModuleBuilder<'a> {
     ) -> Result<(), BuildFault>
         requires { symbol.0 < length self.old.symbols.items }
         ensures keeps { LeavesSymbolCountUnchanged result self.old self.new }
-        ensures table { OnOk result ((changes : List Change) → HasAppliedChanges self.old changes
-            → HasAppliedChanges self.new (changes ++ adds_decl symbol (decl_view decl.entry) ∷ [])) }
+        ensures table { OnOk result ((changes : List Change)
+            → HasAppliedChanges self.old changes → HasAppliedChanges self.new
+            (changes ++ adds_decl symbol (decl_view decl.entry) ∷ [])) }
         ensures full { IfErr result (λ fault. fault ≡ OutOfMemory) }
     {
         let borrowed_symbol = &mut self.symbols[symbol.0 as usize];
@@ -188,8 +189,8 @@ impl<'a> ModuleBuilder<'a> {
     /// Returns the local name of a symbol, which is the name of its first declaration.
     fn local_name(&self, symbol: SymbolId) -> Result<Option<CowStr<'a>>, AllocError>
         requires { symbol.0 < length self.now.symbols.items }
-        ensures { IfOk result
-            (λ name. option_map cow_str_bytes name ≡ local_name_in_symbols self.now.symbols.items symbol) }
+        ensures { IfOk result (λ name. option_map cow_str_bytes name
+            ≡ local_name_in_symbols self.now.symbols.items symbol) }
     {
         match self.symbols[symbol.0 as usize].decls.first() {
             Some(decl) => decl.maybe_name(self.setting.alloc),

@@ -216,7 +216,8 @@ impl<'a> Symbol<'a> {
     /// Returns whether the symbol's first declaration is a member (as deno_graph); false without a
     /// node.
     pub fn is_member(&self) -> bool
-        ensures { result ≡ first_decl_node_satisfies is_member_or_expando_node (symbol_view self.now) }
+        ensures { result ≡ first_decl_node_satisfies is_member_or_expando_node
+            (symbol_view self.now) }
     {
         match self.node_of_first_decl() {
             Some(node) => node.is_member(),

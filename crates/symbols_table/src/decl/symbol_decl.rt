@@ -269,8 +269,8 @@ impl<'a> SymbolDecl<'a> {
     /// Returns whether the declaration gets the overload flag after these declarations of its
     /// symbol.
     pub(crate) fn is_overload_after_decl(&self, before: &[SymbolDecl<'a>]) -> bool
-        ensures { result
-            ≡ gets_overload_flag_after_decl (last_decl (map decl_view before.now)) (decl_view self.now) }
+        ensures { result ≡ gets_overload_flag_after_decl
+            (last_decl (map decl_view before.now)) (decl_view self.now) }
     {
         match before.last() {
             None => false,

@@ -92,9 +92,9 @@ impl<'a> EsModuleInfo<'a> {
     /// Returns the symbol that an identifier resolves to in this module (as deno_graph). It is
     /// `None` if no declaration binds the identifier.
     pub fn symbol_from_swc(&self, id: &Id) -> Option<&Symbol<'a>>
-        ensures { option_copied result ≡ option_and_then (λ s. slice_get
-            (esm_symbol_table self.now).symbols s.0) (symbol_of_ident_in_table (esm_symbol_table self.now)
-            (id_view id.now)) }
+        ensures { option_copied result
+            ≡ option_and_then (λ s. slice_get (esm_symbol_table self.now).symbols s.0)
+            (symbol_of_ident_in_table (esm_symbol_table self.now) (id_view id.now)) }
     {
         let symbol_id = self.symbol_id_from_swc(id)?;
         self.symbol(symbol_id)

@@ -42,7 +42,8 @@ impl<'a> JsonModuleInfo<'a> {
 
     /// Returns the symbol of a number. It is `None` for numbers other than 0 and 1.
     pub fn symbol(&self, symbol_id: SymbolId) -> Option<&Symbol<'a>>
-        ensures { option_copied result ≡ slice_get (json_symbol_table self.now).symbols symbol_id.0 }
+        ensures { option_copied result
+            ≡ slice_get (json_symbol_table self.now).symbols symbol_id.0 }
     {
         self.symbols.get(symbol_id.0 as usize)
     }

@@ -161,7 +161,8 @@ impl<'r, 'a> ModuleInfoRef<'r, 'a> {
 
     /// Returns the symbol of a number. It is `None` if the module has no symbol of this number.
     pub fn symbol(self, symbol_id: SymbolId) -> Option<&'r Symbol<'a>>
-        ensures { option_copied result ≡ slice_get (symbol_table_of_ref self.entry).symbols symbol_id.0 }
+        ensures { option_copied result
+            ≡ slice_get (symbol_table_of_ref self.entry).symbols symbol_id.0 }
     {
         self.all_symbols().get(symbol_id.0 as usize)
     }

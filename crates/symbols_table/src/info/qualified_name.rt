@@ -31,8 +31,8 @@ const COPIED: usize = 128;
 const LONGEST_SIGN: usize = 11;
 
 fn push_escaped(text: &mut String, c: char) -> Result<(), AllocError>
-    ensures { OnOk result
-        (string_bytes text.new ≡ string_bytes text.old ++ encode_utf8_all (char_with_quote_escaped c)) }
+    ensures { OnOk result (string_bytes text.new
+        ≡ string_bytes text.old ++ encode_utf8_all (char_with_quote_escaped c)) }
 {
     if c == '"' {
         text.push('\\')?;
@@ -42,7 +42,8 @@ fn push_escaped(text: &mut String, c: char) -> Result<(), AllocError>
 
 /// Appends a text with `\` before each `"`.
 fn push_all_escaped(made: &mut String, text: &str) -> Result<(), AllocError>
-    ensures { OnOk result (string_bytes made.new ≡ string_bytes made.old ++ text_with_quotes_escaped text.now) }
+    ensures { OnOk result (string_bytes made.new
+        ≡ string_bytes made.old ++ text_with_quotes_escaped text.now) }
 {
     if !text.as_bytes().contains(&b'"') {
         made.push_str(text)?;
@@ -107,8 +108,8 @@ fn with_piece<'a>(pieces: Vec<CowStr<'a>>, piece: CowStr<'a>) -> Result<Vec<CowS
 /// Removes all pieces, stored from the last to the first, and appends their text with `\` before
 /// each `"`.
 fn take_all_escaped(made: &mut String, pieces: &mut Vec<CowStr<'_>>) -> Result<(), AllocError>
-    ensures { OnOk result (string_bytes made.new
-        ≡ string_bytes made.old ++ text_with_quotes_escaped (reversed_pieces_text pieces.old.items)) }
+    ensures { OnOk result (string_bytes made.new ≡ string_bytes made.old
+        ++ text_with_quotes_escaped (reversed_pieces_text pieces.old.items)) }
 {
     while let Some(piece) = pieces.pop() {
         push_all_escaped(made, piece.as_str())?;
@@ -118,8 +119,8 @@ fn take_all_escaped(made: &mut String, pieces: &mut Vec<CowStr<'_>>) -> Result<(
 
 /// Returns the text of the pieces in brackets and quotes, as one piece.
 fn in_brackets<'a>(alloc: Global, pieces: Vec<CowStr<'a>>) -> Result<Vec<CowStr<'a>>, AllocError>
-    ensures { IfOk result (λ more. reversed_pieces_text more.items
-        ≡ codes "[\"" ++ (text_with_quotes_escaped (reversed_pieces_text pieces.entry.items) ++ codes "\"]")) }
+    ensures { IfOk result (λ more. reversed_pieces_text more.items ≡ codes "[\""
+        ++ (text_with_quotes_escaped (reversed_pieces_text pieces.entry.items) ++ codes "\"]")) }
 {
     let mut pieces = pieces;
     let mut made = String::with_capacity(alloc, room_for(&pieces).saturating_add(4))?;
@@ -139,7 +140,8 @@ fn suffix_pieces<'a>(
     inner: Vec<CowStr<'a>>,
 ) -> Result<Vec<CowStr<'a>>, AllocError>
     ensures { IfOk result (λ pieces. reversed_pieces_text pieces.items
-        ≡ dot_prototype_or_bracket_suffix (symbol_view symbol.now) number (reversed_pieces_text inner.entry.items)) }
+        ≡ dot_prototype_or_bracket_suffix
+        (symbol_view symbol.now) number (reversed_pieces_text inner.entry.items)) }
 {
     if !symbol.tables.has_member(number) {
         return with_piece(inner, CowStr::Borrowed("."));
@@ -158,8 +160,8 @@ fn push_suffix(
     number: SymbolId,
     inner: &str,
 ) -> Result<(), AllocError>
-    ensures { OnOk result (string_bytes text.new
-        ≡ string_bytes text.old ++ dot_prototype_or_bracket_suffix (symbol_view symbol.now) number inner.now) }
+    ensures { OnOk result (string_bytes text.new ≡ string_bytes text.old
+        ++ dot_prototype_or_bracket_suffix (symbol_view symbol.now) number inner.now) }
 {
     if !symbol.tables.has_member(number) {
         text.push_str(".")?;
@@ -202,8 +204,8 @@ fn name_with_outer<'a>(
 ) -> Result<NamedSuffix<'a>, AllocError>
     ensures number { IfOk result (λ named. named.number ≡ (symbol_view symbol.now).number) }
     ensures text { IfOk result (λ named. suffix_text named
-        ≡ cow_str_bytes name.entry
-        ++ dot_prototype_or_bracket_suffix (symbol_view symbol.now) inner.entry.number (suffix_text inner.entry)) }
+        ≡ cow_str_bytes name.entry ++ dot_prototype_or_bracket_suffix
+        (symbol_view symbol.now) inner.entry.number (suffix_text inner.entry)) }
 {
     let number = symbol.symbol_id;
     if inner.later.is_empty() && inner.first.as_str().len() <= COPIED {
@@ -235,7 +237,8 @@ fn name_from<'a>(
     name: CowStr<'a>,
     inner: Option<NamedSuffix<'a>>,
 ) -> Result<Option<NamedSuffix<'a>>, AllocError>
-    ensures { IfOk result (λ named. (path : List SymbolView) → IsNameOfPathSuffixIfAny inner.entry path
+    ensures { IfOk result (λ named. (path : List SymbolView)
+        → IsNameOfPathSuffixIfAny inner.entry path
         → symbol_name (symbol_view symbol.now) ≡ Some (cow_str_bytes name.entry)
         → IsNameOfPathSuffixIfAny named (symbol_view symbol.now ∷ path)) }
 {
@@ -348,8 +351,8 @@ impl<'r, 'a> ModuleInfoRef<'r, 'a> {
         alloc: Global,
         symbol_id: SymbolId,
     ) -> Result<Option<String>, SymbolsFault>
-        ensures name { IfOk result (λ name. IsSome (symbol_in_table (symbol_table_of_ref self.entry) symbol_id)
-            × (option_map string_bytes name
+        ensures name { IfOk result (λ name. IsSome (symbol_in_table
+            (symbol_table_of_ref self.entry) symbol_id) × (option_map string_bytes name
             ≡ qualified_name (symbol_in_table (symbol_table_of_ref self.entry)) symbol_id)) }
         ensures fault { IfErr result
             (IsQualifiedNameFault (symbol_in_table (symbol_table_of_ref self.entry) symbol_id)) }

@@ -15,7 +15,8 @@ use std::alloc::Global;
 use symbols_ast::tree::Decl;
 
 fn class_decl(object: &Object<'_, '_>) -> Result<Decl, FormatFault>
-    ensures { IsReadResult decl_name_and_field_values result (read_as_kind Name.ClassDecl (object_data object.now)) }
+    ensures { IsReadResult decl_name_and_field_values result
+        (read_as_kind Name.ClassDecl (object_data object.now)) }
 {
     let ident = fields::child(object, "ident")?;
     let class = fields::child(object, "class")?;
@@ -23,7 +24,8 @@ fn class_decl(object: &Object<'_, '_>) -> Result<Decl, FormatFault>
 }
 
 fn class_expr(object: &Object<'_, '_>) -> Result<Decl, FormatFault>
-    ensures { IsReadResult decl_name_and_field_values result (read_as_kind Name.ClassExpr (object_data object.now)) }
+    ensures { IsReadResult decl_name_and_field_values result
+        (read_as_kind Name.ClassExpr (object_data object.now)) }
 {
     let ident = fields::optional_child(object, "ident")?;
     let class = fields::child(object, "class")?;
@@ -31,7 +33,8 @@ fn class_expr(object: &Object<'_, '_>) -> Result<Decl, FormatFault>
 }
 
 fn class(alloc: Global, object: &Object<'_, '_>) -> Result<Decl, FormatFault>
-    ensures { IsReadResult decl_name_and_field_values result (read_as_kind Name.Class (object_data object.now)) }
+    ensures { IsReadResult decl_name_and_field_values result
+        (read_as_kind Name.Class (object_data object.now)) }
 {
     Ok(Decl::Class {
         type_params: fields::optional_child(object, "type_params")?,
@@ -43,7 +46,8 @@ fn class(alloc: Global, object: &Object<'_, '_>) -> Result<Decl, FormatFault>
 }
 
 fn fn_decl(object: &Object<'_, '_>) -> Result<Decl, FormatFault>
-    ensures { IsReadResult decl_name_and_field_values result (read_as_kind Name.FnDecl (object_data object.now)) }
+    ensures { IsReadResult decl_name_and_field_values result
+        (read_as_kind Name.FnDecl (object_data object.now)) }
 {
     let ident = fields::child(object, "ident")?;
     let function = fields::child(object, "function")?;
@@ -51,7 +55,8 @@ fn fn_decl(object: &Object<'_, '_>) -> Result<Decl, FormatFault>
 }
 
 fn fn_expr(object: &Object<'_, '_>) -> Result<Decl, FormatFault>
-    ensures { IsReadResult decl_name_and_field_values result (read_as_kind Name.FnExpr (object_data object.now)) }
+    ensures { IsReadResult decl_name_and_field_values result
+        (read_as_kind Name.FnExpr (object_data object.now)) }
 {
     let ident = fields::optional_child(object, "ident")?;
     let function = fields::child(object, "function")?;
@@ -59,7 +64,8 @@ fn fn_expr(object: &Object<'_, '_>) -> Result<Decl, FormatFault>
 }
 
 fn function(alloc: Global, object: &Object<'_, '_>) -> Result<Decl, FormatFault>
-    ensures { IsReadResult decl_name_and_field_values result (read_as_kind Name.Function (object_data object.now)) }
+    ensures { IsReadResult decl_name_and_field_values result
+        (read_as_kind Name.Function (object_data object.now)) }
 {
     Ok(Decl::Function {
         type_params: fields::optional_child(object, "type_params")?,
@@ -70,21 +76,24 @@ fn function(alloc: Global, object: &Object<'_, '_>) -> Result<Decl, FormatFault>
 }
 
 fn var_decl(alloc: Global, object: &Object<'_, '_>) -> Result<Decl, FormatFault>
-    ensures { IsReadResult decl_name_and_field_values result (read_as_kind Name.VarDecl (object_data object.now)) }
+    ensures { IsReadResult decl_name_and_field_values result
+        (read_as_kind Name.VarDecl (object_data object.now)) }
 {
     let decls = fields::children(alloc, object, "decls")?;
     Ok(Decl::VarDecl { decls })
 }
 
 fn using_decl(alloc: Global, object: &Object<'_, '_>) -> Result<Decl, FormatFault>
-    ensures { IsReadResult decl_name_and_field_values result (read_as_kind Name.UsingDecl (object_data object.now)) }
+    ensures { IsReadResult decl_name_and_field_values result
+        (read_as_kind Name.UsingDecl (object_data object.now)) }
 {
     let decls = fields::children(alloc, object, "decls")?;
     Ok(Decl::UsingDecl { decls })
 }
 
 fn var_declarator(object: &Object<'_, '_>) -> Result<Decl, FormatFault>
-    ensures { IsReadResult decl_name_and_field_values result (read_as_kind Name.VarDeclarator (object_data object.now)) }
+    ensures { IsReadResult decl_name_and_field_values result
+        (read_as_kind Name.VarDeclarator (object_data object.now)) }
 {
     let name = fields::child(object, "name")?;
     let init = fields::optional_child(object, "init")?;
@@ -92,7 +101,8 @@ fn var_declarator(object: &Object<'_, '_>) -> Result<Decl, FormatFault>
 }
 
 fn ts_interface_decl(alloc: Global, object: &Object<'_, '_>) -> Result<Decl, FormatFault>
-    ensures { IsReadResult decl_name_and_field_values result (read_as_kind Name.TsInterfaceDecl (object_data object.now)) }
+    ensures { IsReadResult decl_name_and_field_values result
+        (read_as_kind Name.TsInterfaceDecl (object_data object.now)) }
 {
     Ok(Decl::TsInterfaceDecl {
         id: fields::child(object, "id")?,
@@ -103,7 +113,8 @@ fn ts_interface_decl(alloc: Global, object: &Object<'_, '_>) -> Result<Decl, For
 }
 
 fn ts_type_alias_decl(object: &Object<'_, '_>) -> Result<Decl, FormatFault>
-    ensures { IsReadResult decl_name_and_field_values result (read_as_kind Name.TsTypeAliasDecl (object_data object.now)) }
+    ensures { IsReadResult decl_name_and_field_values result
+        (read_as_kind Name.TsTypeAliasDecl (object_data object.now)) }
 {
     Ok(Decl::TsTypeAliasDecl {
         id: fields::child(object, "id")?,
@@ -113,7 +124,8 @@ fn ts_type_alias_decl(object: &Object<'_, '_>) -> Result<Decl, FormatFault>
 }
 
 fn ts_enum_decl(alloc: Global, object: &Object<'_, '_>) -> Result<Decl, FormatFault>
-    ensures { IsReadResult decl_name_and_field_values result (read_as_kind Name.TsEnumDecl (object_data object.now)) }
+    ensures { IsReadResult decl_name_and_field_values result
+        (read_as_kind Name.TsEnumDecl (object_data object.now)) }
 {
     let id = fields::child(object, "id")?;
     let members = fields::children(alloc, object, "members")?;
@@ -121,14 +133,16 @@ fn ts_enum_decl(alloc: Global, object: &Object<'_, '_>) -> Result<Decl, FormatFa
 }
 
 fn ts_enum_member(object: &Object<'_, '_>) -> Result<Decl, FormatFault>
-    ensures { IsReadResult decl_name_and_field_values result (read_as_kind Name.TsEnumMember (object_data object.now)) }
+    ensures { IsReadResult decl_name_and_field_values result
+        (read_as_kind Name.TsEnumMember (object_data object.now)) }
 {
     let init = fields::optional_child(object, "init")?;
     Ok(Decl::TsEnumMember { init })
 }
 
 fn ts_module_decl(object: &Object<'_, '_>) -> Result<Decl, FormatFault>
-    ensures { IsReadResult decl_name_and_field_values result (read_as_kind Name.TsModuleDecl (object_data object.now)) }
+    ensures { IsReadResult decl_name_and_field_values result
+        (read_as_kind Name.TsModuleDecl (object_data object.now)) }
 {
     Ok(Decl::TsModuleDecl {
         id: fields::child(object, "id")?,
@@ -138,7 +152,8 @@ fn ts_module_decl(object: &Object<'_, '_>) -> Result<Decl, FormatFault>
 }
 
 fn ts_namespace_decl(object: &Object<'_, '_>) -> Result<Decl, FormatFault>
-    ensures { IsReadResult decl_name_and_field_values result (read_as_kind Name.TsNamespaceDecl (object_data object.now)) }
+    ensures { IsReadResult decl_name_and_field_values result
+        (read_as_kind Name.TsNamespaceDecl (object_data object.now)) }
 {
     let id = fields::child(object, "id")?;
     let body = fields::child(object, "body")?;
@@ -146,7 +161,8 @@ fn ts_namespace_decl(object: &Object<'_, '_>) -> Result<Decl, FormatFault>
 }
 
 fn ts_module_block(alloc: Global, object: &Object<'_, '_>) -> Result<Decl, FormatFault>
-    ensures { IsReadResult decl_name_and_field_values result (read_as_kind Name.TsModuleBlock (object_data object.now)) }
+    ensures { IsReadResult decl_name_and_field_values result
+        (read_as_kind Name.TsModuleBlock (object_data object.now)) }
 {
     let body = fields::children(alloc, object, "body")?;
     Ok(Decl::TsModuleBlock { body })
@@ -159,7 +175,8 @@ pub(crate) fn decl(
     kind: &str,
     object: &Object<'_, '_>,
 ) -> Result<Option<Decl>, FormatFault>
-    ensures { IsReadResult (option_map decl_name_and_field_values) result (read_decl kind.now (object_data object.now)) }
+    ensures { IsReadResult (option_map decl_name_and_field_values) result
+        (read_decl kind.now (object_data object.now)) }
 {
     match kind {
         "ClassDecl" => some_kind(class_decl(object)),

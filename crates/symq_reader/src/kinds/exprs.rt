@@ -15,14 +15,16 @@ use std::alloc::Global;
 use symbols_ast::tree::Expr;
 
 fn ident(alloc: Global, object: &Object<'_, '_>) -> Result<Expr, FormatFault>
-    ensures { IsReadResult expr_name_and_field_values result (read_as_kind Name.Ident (object_data object.now)) }
+    ensures { IsReadResult expr_name_and_field_values result
+        (read_as_kind Name.Ident (object_data object.now)) }
 {
     let sym = fields::identifier(alloc, object, "sym")?;
     Ok(Expr::Ident { sym })
 }
 
 fn member(object: &Object<'_, '_>) -> Result<Expr, FormatFault>
-    ensures { IsReadResult expr_name_and_field_values result (read_as_kind Name.Member (object_data object.now)) }
+    ensures { IsReadResult expr_name_and_field_values result
+        (read_as_kind Name.Member (object_data object.now)) }
 {
     let obj = fields::child(object, "obj")?;
     let prop = fields::child(object, "prop")?;
@@ -30,49 +32,56 @@ fn member(object: &Object<'_, '_>) -> Result<Expr, FormatFault>
 }
 
 fn ident_name(alloc: Global, object: &Object<'_, '_>) -> Result<Expr, FormatFault>
-    ensures { IsReadResult expr_name_and_field_values result (read_as_kind Name.IdentName (object_data object.now)) }
+    ensures { IsReadResult expr_name_and_field_values result
+        (read_as_kind Name.IdentName (object_data object.now)) }
 {
     let name = fields::text(alloc, object, "name")?;
     Ok(Expr::IdentName { name })
 }
 
 fn private_name(alloc: Global, object: &Object<'_, '_>) -> Result<Expr, FormatFault>
-    ensures { IsReadResult expr_name_and_field_values result (read_as_kind Name.PrivateName (object_data object.now)) }
+    ensures { IsReadResult expr_name_and_field_values result
+        (read_as_kind Name.PrivateName (object_data object.now)) }
 {
     let name = fields::text(alloc, object, "name")?;
     Ok(Expr::PrivateName { name })
 }
 
 fn string(alloc: Global, object: &Object<'_, '_>) -> Result<Expr, FormatFault>
-    ensures { IsReadResult expr_name_and_field_values result (read_as_kind Name.Str (object_data object.now)) }
+    ensures { IsReadResult expr_name_and_field_values result
+        (read_as_kind Name.Str (object_data object.now)) }
 {
     let value = fields::text(alloc, object, "value")?;
     Ok(Expr::Str { value })
 }
 
 fn number(alloc: Global, object: &Object<'_, '_>) -> Result<Expr, FormatFault>
-    ensures { IsReadResult expr_name_and_field_values result (read_as_kind Name.Num (object_data object.now)) }
+    ensures { IsReadResult expr_name_and_field_values result
+        (read_as_kind Name.Num (object_data object.now)) }
 {
     let text = fields::text(alloc, object, "text")?;
     Ok(Expr::Num { text })
 }
 
 fn big_int(alloc: Global, object: &Object<'_, '_>) -> Result<Expr, FormatFault>
-    ensures { IsReadResult expr_name_and_field_values result (read_as_kind Name.BigInt (object_data object.now)) }
+    ensures { IsReadResult expr_name_and_field_values result
+        (read_as_kind Name.BigInt (object_data object.now)) }
 {
     let text = fields::text(alloc, object, "text")?;
     Ok(Expr::BigInt { text })
 }
 
 fn computed(object: &Object<'_, '_>) -> Result<Expr, FormatFault>
-    ensures { IsReadResult expr_name_and_field_values result (read_as_kind Name.Computed (object_data object.now)) }
+    ensures { IsReadResult expr_name_and_field_values result
+        (read_as_kind Name.Computed (object_data object.now)) }
 {
     let expr = fields::child(object, "expr")?;
     Ok(Expr::Computed { expr })
 }
 
 fn assign(object: &Object<'_, '_>) -> Result<Expr, FormatFault>
-    ensures { IsReadResult expr_name_and_field_values result (read_as_kind Name.Assign (object_data object.now)) }
+    ensures { IsReadResult expr_name_and_field_values result
+        (read_as_kind Name.Assign (object_data object.now)) }
 {
     Ok(Expr::Assign {
         plain: fields::flag(object, "plain")?,
@@ -82,7 +91,8 @@ fn assign(object: &Object<'_, '_>) -> Result<Expr, FormatFault>
 }
 
 fn arrow(alloc: Global, object: &Object<'_, '_>) -> Result<Expr, FormatFault>
-    ensures { IsReadResult expr_name_and_field_values result (read_as_kind Name.Arrow (object_data object.now)) }
+    ensures { IsReadResult expr_name_and_field_values result
+        (read_as_kind Name.Arrow (object_data object.now)) }
 {
     Ok(Expr::Arrow {
         type_params: fields::optional_child(object, "type_params")?,
@@ -100,7 +110,8 @@ pub(crate) fn expr(
     kind: &str,
     object: &Object<'_, '_>,
 ) -> Result<Option<Expr>, FormatFault>
-    ensures { IsReadResult (option_map expr_name_and_field_values) result (read_expr kind.now (object_data object.now)) }
+    ensures { IsReadResult (option_map expr_name_and_field_values) result
+        (read_expr kind.now (object_data object.now)) }
 {
     match kind {
         "Ident" => some_kind(ident(alloc, object)),

@@ -15,14 +15,16 @@ use std::alloc::Global;
 use symbols_ast::tree::Item;
 
 fn program(alloc: Global, object: &Object<'_, '_>) -> Result<Item, FormatFault>
-    ensures { IsReadResult item_name_and_field_values result (read_as_kind Name.Program (object_data object.now)) }
+    ensures { IsReadResult item_name_and_field_values result
+        (read_as_kind Name.Program (object_data object.now)) }
 {
     let body = fields::children(alloc, object, "body")?;
     Ok(Item::Program { body })
 }
 
 fn import(alloc: Global, object: &Object<'_, '_>) -> Result<Item, FormatFault>
-    ensures { IsReadResult item_name_and_field_values result (read_as_kind Name.Import (object_data object.now)) }
+    ensures { IsReadResult item_name_and_field_values result
+        (read_as_kind Name.Import (object_data object.now)) }
 {
     let specifiers = fields::children(alloc, object, "specifiers")?;
     let src = fields::text(alloc, object, "src")?;
@@ -30,7 +32,8 @@ fn import(alloc: Global, object: &Object<'_, '_>) -> Result<Item, FormatFault>
 }
 
 fn import_named(alloc: Global, object: &Object<'_, '_>) -> Result<Item, FormatFault>
-    ensures { IsReadResult item_name_and_field_values result (read_as_kind Name.ImportNamed (object_data object.now)) }
+    ensures { IsReadResult item_name_and_field_values result
+        (read_as_kind Name.ImportNamed (object_data object.now)) }
 {
     let local = fields::child(object, "local")?;
     let imported = fields::optional_text(alloc, object, "imported")?;
@@ -38,28 +41,32 @@ fn import_named(alloc: Global, object: &Object<'_, '_>) -> Result<Item, FormatFa
 }
 
 fn import_default(object: &Object<'_, '_>) -> Result<Item, FormatFault>
-    ensures { IsReadResult item_name_and_field_values result (read_as_kind Name.ImportDefault (object_data object.now)) }
+    ensures { IsReadResult item_name_and_field_values result
+        (read_as_kind Name.ImportDefault (object_data object.now)) }
 {
     let local = fields::child(object, "local")?;
     Ok(Item::ImportDefault { local })
 }
 
 fn import_namespace(object: &Object<'_, '_>) -> Result<Item, FormatFault>
-    ensures { IsReadResult item_name_and_field_values result (read_as_kind Name.ImportNamespace (object_data object.now)) }
+    ensures { IsReadResult item_name_and_field_values result
+        (read_as_kind Name.ImportNamespace (object_data object.now)) }
 {
     let local = fields::child(object, "local")?;
     Ok(Item::ImportNamespace { local })
 }
 
 fn export_decl(object: &Object<'_, '_>) -> Result<Item, FormatFault>
-    ensures { IsReadResult item_name_and_field_values result (read_as_kind Name.ExportDecl (object_data object.now)) }
+    ensures { IsReadResult item_name_and_field_values result
+        (read_as_kind Name.ExportDecl (object_data object.now)) }
 {
     let decl = fields::child(object, "decl")?;
     Ok(Item::ExportDecl { decl })
 }
 
 fn export_named(alloc: Global, object: &Object<'_, '_>) -> Result<Item, FormatFault>
-    ensures { IsReadResult item_name_and_field_values result (read_as_kind Name.ExportNamed (object_data object.now)) }
+    ensures { IsReadResult item_name_and_field_values result
+        (read_as_kind Name.ExportNamed (object_data object.now)) }
 {
     let specifiers = fields::children(alloc, object, "specifiers")?;
     let src = fields::optional_text(alloc, object, "src")?;
@@ -67,7 +74,8 @@ fn export_named(alloc: Global, object: &Object<'_, '_>) -> Result<Item, FormatFa
 }
 
 fn export_specifier(alloc: Global, object: &Object<'_, '_>) -> Result<Item, FormatFault>
-    ensures { IsReadResult item_name_and_field_values result (read_as_kind Name.ExportSpecifier (object_data object.now)) }
+    ensures { IsReadResult item_name_and_field_values result
+        (read_as_kind Name.ExportSpecifier (object_data object.now)) }
 {
     let orig = fields::child(object, "orig")?;
     let exported = fields::optional_text(alloc, object, "exported")?;
@@ -75,49 +83,56 @@ fn export_specifier(alloc: Global, object: &Object<'_, '_>) -> Result<Item, Form
 }
 
 fn export_namespace(alloc: Global, object: &Object<'_, '_>) -> Result<Item, FormatFault>
-    ensures { IsReadResult item_name_and_field_values result (read_as_kind Name.ExportNamespace (object_data object.now)) }
+    ensures { IsReadResult item_name_and_field_values result
+        (read_as_kind Name.ExportNamespace (object_data object.now)) }
 {
     let name = fields::text(alloc, object, "name")?;
     Ok(Item::ExportNamespace { name })
 }
 
 fn export_default_specifier(object: &Object<'_, '_>) -> Result<Item, FormatFault>
-    ensures { IsReadResult item_name_and_field_values result (read_as_kind Name.ExportDefaultSpecifier (object_data object.now)) }
+    ensures { IsReadResult item_name_and_field_values result
+        (read_as_kind Name.ExportDefaultSpecifier (object_data object.now)) }
 {
     let local = fields::child(object, "local")?;
     Ok(Item::ExportDefaultSpecifier { local })
 }
 
 fn export_default_decl(object: &Object<'_, '_>) -> Result<Item, FormatFault>
-    ensures { IsReadResult item_name_and_field_values result (read_as_kind Name.ExportDefaultDecl (object_data object.now)) }
+    ensures { IsReadResult item_name_and_field_values result
+        (read_as_kind Name.ExportDefaultDecl (object_data object.now)) }
 {
     let decl = fields::child(object, "decl")?;
     Ok(Item::ExportDefaultDecl { decl })
 }
 
 fn export_default_expr(object: &Object<'_, '_>) -> Result<Item, FormatFault>
-    ensures { IsReadResult item_name_and_field_values result (read_as_kind Name.ExportDefaultExpr (object_data object.now)) }
+    ensures { IsReadResult item_name_and_field_values result
+        (read_as_kind Name.ExportDefaultExpr (object_data object.now)) }
 {
     let expr = fields::child(object, "expr")?;
     Ok(Item::ExportDefaultExpr { expr })
 }
 
 fn ts_export_assignment(object: &Object<'_, '_>) -> Result<Item, FormatFault>
-    ensures { IsReadResult item_name_and_field_values result (read_as_kind Name.TsExportAssignment (object_data object.now)) }
+    ensures { IsReadResult item_name_and_field_values result
+        (read_as_kind Name.TsExportAssignment (object_data object.now)) }
 {
     let expr = fields::child(object, "expr")?;
     Ok(Item::TsExportAssignment { expr })
 }
 
 fn export_all(alloc: Global, object: &Object<'_, '_>) -> Result<Item, FormatFault>
-    ensures { IsReadResult item_name_and_field_values result (read_as_kind Name.ExportAll (object_data object.now)) }
+    ensures { IsReadResult item_name_and_field_values result
+        (read_as_kind Name.ExportAll (object_data object.now)) }
 {
     let src = fields::text(alloc, object, "src")?;
     Ok(Item::ExportAll { src })
 }
 
 fn ts_import_equals_decl(alloc: Global, object: &Object<'_, '_>) -> Result<Item, FormatFault>
-    ensures { IsReadResult item_name_and_field_values result (read_as_kind Name.TsImportEqualsDecl (object_data object.now)) }
+    ensures { IsReadResult item_name_and_field_values result
+        (read_as_kind Name.TsImportEqualsDecl (object_data object.now)) }
 {
     Ok(Item::TsImportEqualsDecl {
         is_export: fields::flag(object, "is_export")?,
@@ -128,7 +143,8 @@ fn ts_import_equals_decl(alloc: Global, object: &Object<'_, '_>) -> Result<Item,
 }
 
 fn expr_stmt(object: &Object<'_, '_>) -> Result<Item, FormatFault>
-    ensures { IsReadResult item_name_and_field_values result (read_as_kind Name.ExprStmt (object_data object.now)) }
+    ensures { IsReadResult item_name_and_field_values result
+        (read_as_kind Name.ExprStmt (object_data object.now)) }
 {
     let expr = fields::child(object, "expr")?;
     Ok(Item::ExprStmt { expr })
@@ -141,7 +157,8 @@ pub(crate) fn item(
     kind: &str,
     object: &Object<'_, '_>,
 ) -> Result<Option<Item>, FormatFault>
-    ensures { IsReadResult (option_map item_name_and_field_values) result (read_item kind.now (object_data object.now)) }
+    ensures { IsReadResult (option_map item_name_and_field_values) result
+        (read_item kind.now (object_data object.now)) }
 {
     match kind {
         "Program" => some_kind(program(alloc, object)),

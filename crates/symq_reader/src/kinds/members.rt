@@ -16,7 +16,8 @@ use std::alloc::Global;
 use symbols_ast::tree::Member;
 
 fn constructor(alloc: Global, object: &Object<'_, '_>) -> Result<Member, FormatFault>
-    ensures { IsReadResult member_name_and_field_values result (read_as_kind Name.Constructor (object_data object.now)) }
+    ensures { IsReadResult member_name_and_field_values result
+        (read_as_kind Name.Constructor (object_data object.now)) }
 {
     Ok(Member::Constructor {
         params: fields::children(alloc, object, "params")?,
@@ -26,7 +27,8 @@ fn constructor(alloc: Global, object: &Object<'_, '_>) -> Result<Member, FormatF
 }
 
 fn ts_param_prop(object: &Object<'_, '_>) -> Result<Member, FormatFault>
-    ensures { IsReadResult member_name_and_field_values result (read_as_kind Name.TsParamProp (object_data object.now)) }
+    ensures { IsReadResult member_name_and_field_values result
+        (read_as_kind Name.TsParamProp (object_data object.now)) }
 {
     Ok(Member::TsParamProp {
         param: fields::child(object, "param")?,
@@ -35,7 +37,8 @@ fn ts_param_prop(object: &Object<'_, '_>) -> Result<Member, FormatFault>
 }
 
 fn class_method(object: &Object<'_, '_>) -> Result<Member, FormatFault>
-    ensures { IsReadResult member_name_and_field_values result (read_as_kind Name.ClassMethod (object_data object.now)) }
+    ensures { IsReadResult member_name_and_field_values result
+        (read_as_kind Name.ClassMethod (object_data object.now)) }
 {
     Ok(Member::ClassMethod {
         key: fields::child(object, "key")?,
@@ -47,7 +50,8 @@ fn class_method(object: &Object<'_, '_>) -> Result<Member, FormatFault>
 }
 
 fn class_prop(object: &Object<'_, '_>) -> Result<Member, FormatFault>
-    ensures { IsReadResult member_name_and_field_values result (read_as_kind Name.ClassProp (object_data object.now)) }
+    ensures { IsReadResult member_name_and_field_values result
+        (read_as_kind Name.ClassProp (object_data object.now)) }
 {
     Ok(Member::ClassProp {
         key: fields::child(object, "key")?,
@@ -59,7 +63,8 @@ fn class_prop(object: &Object<'_, '_>) -> Result<Member, FormatFault>
 }
 
 fn auto_accessor(object: &Object<'_, '_>) -> Result<Member, FormatFault>
-    ensures { IsReadResult member_name_and_field_values result (read_as_kind Name.AutoAccessor (object_data object.now)) }
+    ensures { IsReadResult member_name_and_field_values result
+        (read_as_kind Name.AutoAccessor (object_data object.now)) }
 {
     Ok(Member::AutoAccessor {
         key: fields::child(object, "key")?,
@@ -71,7 +76,8 @@ fn auto_accessor(object: &Object<'_, '_>) -> Result<Member, FormatFault>
 }
 
 fn ts_index_signature(alloc: Global, object: &Object<'_, '_>) -> Result<Member, FormatFault>
-    ensures { IsReadResult member_name_and_field_values result (read_as_kind Name.TsIndexSignature (object_data object.now)) }
+    ensures { IsReadResult member_name_and_field_values result
+        (read_as_kind Name.TsIndexSignature (object_data object.now)) }
 {
     Ok(Member::TsIndexSignature {
         params: fields::children(alloc, object, "params")?,
@@ -81,7 +87,8 @@ fn ts_index_signature(alloc: Global, object: &Object<'_, '_>) -> Result<Member, 
 }
 
 fn ts_call_signature_decl(alloc: Global, object: &Object<'_, '_>) -> Result<Member, FormatFault>
-    ensures { IsReadResult member_name_and_field_values result (read_as_kind Name.TsCallSignatureDecl (object_data object.now)) }
+    ensures { IsReadResult member_name_and_field_values result
+        (read_as_kind Name.TsCallSignatureDecl (object_data object.now)) }
 {
     Ok(Member::TsCallSignatureDecl {
         type_params: fields::optional_child(object, "type_params")?,
@@ -94,7 +101,8 @@ fn ts_construct_signature_decl(
     alloc: Global,
     object: &Object<'_, '_>,
 ) -> Result<Member, FormatFault>
-    ensures { IsReadResult member_name_and_field_values result (read_as_kind Name.TsConstructSignatureDecl (object_data object.now)) }
+    ensures { IsReadResult member_name_and_field_values result
+        (read_as_kind Name.TsConstructSignatureDecl (object_data object.now)) }
 {
     Ok(Member::TsConstructSignatureDecl {
         type_params: fields::optional_child(object, "type_params")?,
@@ -104,7 +112,8 @@ fn ts_construct_signature_decl(
 }
 
 fn ts_property_signature(object: &Object<'_, '_>) -> Result<Member, FormatFault>
-    ensures { IsReadResult member_name_and_field_values result (read_as_kind Name.TsPropertySignature (object_data object.now)) }
+    ensures { IsReadResult member_name_and_field_values result
+        (read_as_kind Name.TsPropertySignature (object_data object.now)) }
 {
     Ok(Member::TsPropertySignature {
         key: fields::child(object, "key")?,
@@ -114,7 +123,8 @@ fn ts_property_signature(object: &Object<'_, '_>) -> Result<Member, FormatFault>
 }
 
 fn ts_getter_signature(object: &Object<'_, '_>) -> Result<Member, FormatFault>
-    ensures { IsReadResult member_name_and_field_values result (read_as_kind Name.TsGetterSignature (object_data object.now)) }
+    ensures { IsReadResult member_name_and_field_values result
+        (read_as_kind Name.TsGetterSignature (object_data object.now)) }
 {
     Ok(Member::TsGetterSignature {
         key: fields::child(object, "key")?,
@@ -124,7 +134,8 @@ fn ts_getter_signature(object: &Object<'_, '_>) -> Result<Member, FormatFault>
 }
 
 fn ts_setter_signature(object: &Object<'_, '_>) -> Result<Member, FormatFault>
-    ensures { IsReadResult member_name_and_field_values result (read_as_kind Name.TsSetterSignature (object_data object.now)) }
+    ensures { IsReadResult member_name_and_field_values result
+        (read_as_kind Name.TsSetterSignature (object_data object.now)) }
 {
     Ok(Member::TsSetterSignature {
         key: fields::child(object, "key")?,
@@ -134,7 +145,8 @@ fn ts_setter_signature(object: &Object<'_, '_>) -> Result<Member, FormatFault>
 }
 
 fn ts_method_signature(alloc: Global, object: &Object<'_, '_>) -> Result<Member, FormatFault>
-    ensures { IsReadResult member_name_and_field_values result (read_as_kind Name.TsMethodSignature (object_data object.now)) }
+    ensures { IsReadResult member_name_and_field_values result
+        (read_as_kind Name.TsMethodSignature (object_data object.now)) }
 {
     Ok(Member::TsMethodSignature {
         key: fields::child(object, "key")?,
@@ -152,7 +164,8 @@ pub(crate) fn member(
     kind: &str,
     object: &Object<'_, '_>,
 ) -> Result<Option<Member>, FormatFault>
-    ensures { IsReadResult (option_map member_name_and_field_values) result (read_member kind.now (object_data object.now)) }
+    ensures { IsReadResult (option_map member_name_and_field_values) result
+        (read_member kind.now (object_data object.now)) }
 {
     match kind {
         "Constructor" => some_kind(constructor(alloc, object)),

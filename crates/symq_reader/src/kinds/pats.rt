@@ -15,7 +15,8 @@ use std::alloc::Global;
 use symbols_ast::tree::Pat;
 
 fn binding_ident(alloc: Global, object: &Object<'_, '_>) -> Result<Pat, FormatFault>
-    ensures { IsReadResult pat_name_and_field_values result (read_as_kind Name.BindingIdent (object_data object.now)) }
+    ensures { IsReadResult pat_name_and_field_values result
+        (read_as_kind Name.BindingIdent (object_data object.now)) }
 {
     let sym = fields::identifier(alloc, object, "sym")?;
     let type_ann = fields::optional_child(object, "type_ann")?;
@@ -23,7 +24,8 @@ fn binding_ident(alloc: Global, object: &Object<'_, '_>) -> Result<Pat, FormatFa
 }
 
 fn array_pat(alloc: Global, object: &Object<'_, '_>) -> Result<Pat, FormatFault>
-    ensures { IsReadResult pat_name_and_field_values result (read_as_kind Name.ArrayPat (object_data object.now)) }
+    ensures { IsReadResult pat_name_and_field_values result
+        (read_as_kind Name.ArrayPat (object_data object.now)) }
 {
     let elems = fields::children(alloc, object, "elems")?;
     let type_ann = fields::optional_child(object, "type_ann")?;
@@ -31,7 +33,8 @@ fn array_pat(alloc: Global, object: &Object<'_, '_>) -> Result<Pat, FormatFault>
 }
 
 fn object_pat(alloc: Global, object: &Object<'_, '_>) -> Result<Pat, FormatFault>
-    ensures { IsReadResult pat_name_and_field_values result (read_as_kind Name.ObjectPat (object_data object.now)) }
+    ensures { IsReadResult pat_name_and_field_values result
+        (read_as_kind Name.ObjectPat (object_data object.now)) }
 {
     let props = fields::children(alloc, object, "props")?;
     let type_ann = fields::optional_child(object, "type_ann")?;
@@ -39,7 +42,8 @@ fn object_pat(alloc: Global, object: &Object<'_, '_>) -> Result<Pat, FormatFault
 }
 
 fn rest_pat(object: &Object<'_, '_>) -> Result<Pat, FormatFault>
-    ensures { IsReadResult pat_name_and_field_values result (read_as_kind Name.RestPat (object_data object.now)) }
+    ensures { IsReadResult pat_name_and_field_values result
+        (read_as_kind Name.RestPat (object_data object.now)) }
 {
     let arg = fields::child(object, "arg")?;
     let type_ann = fields::optional_child(object, "type_ann")?;
@@ -47,7 +51,8 @@ fn rest_pat(object: &Object<'_, '_>) -> Result<Pat, FormatFault>
 }
 
 fn key_value_pat_prop(object: &Object<'_, '_>) -> Result<Pat, FormatFault>
-    ensures { IsReadResult pat_name_and_field_values result (read_as_kind Name.KeyValuePatProp (object_data object.now)) }
+    ensures { IsReadResult pat_name_and_field_values result
+        (read_as_kind Name.KeyValuePatProp (object_data object.now)) }
 {
     let key = fields::child(object, "key")?;
     let value = fields::child(object, "value")?;
@@ -55,7 +60,8 @@ fn key_value_pat_prop(object: &Object<'_, '_>) -> Result<Pat, FormatFault>
 }
 
 fn assign_pat_prop(object: &Object<'_, '_>) -> Result<Pat, FormatFault>
-    ensures { IsReadResult pat_name_and_field_values result (read_as_kind Name.AssignPatProp (object_data object.now)) }
+    ensures { IsReadResult pat_name_and_field_values result
+        (read_as_kind Name.AssignPatProp (object_data object.now)) }
 {
     let key = fields::child(object, "key")?;
     let value = fields::optional_child(object, "value")?;
@@ -63,7 +69,8 @@ fn assign_pat_prop(object: &Object<'_, '_>) -> Result<Pat, FormatFault>
 }
 
 fn assign_pat(object: &Object<'_, '_>) -> Result<Pat, FormatFault>
-    ensures { IsReadResult pat_name_and_field_values result (read_as_kind Name.AssignPat (object_data object.now)) }
+    ensures { IsReadResult pat_name_and_field_values result
+        (read_as_kind Name.AssignPat (object_data object.now)) }
 {
     let left = fields::child(object, "left")?;
     let right = fields::child(object, "right")?;
@@ -71,7 +78,8 @@ fn assign_pat(object: &Object<'_, '_>) -> Result<Pat, FormatFault>
 }
 
 fn expr_pat(object: &Object<'_, '_>) -> Result<Pat, FormatFault>
-    ensures { IsReadResult pat_name_and_field_values result (read_as_kind Name.ExprPat (object_data object.now)) }
+    ensures { IsReadResult pat_name_and_field_values result
+        (read_as_kind Name.ExprPat (object_data object.now)) }
 {
     let expr = fields::child(object, "expr")?;
     Ok(Pat::ExprPat { expr })
@@ -79,14 +87,16 @@ fn expr_pat(object: &Object<'_, '_>) -> Result<Pat, FormatFault>
 
 /// The kind that the text calls `Type`.
 fn plain(alloc: Global, object: &Object<'_, '_>) -> Result<Pat, FormatFault>
-    ensures { IsReadResult pat_name_and_field_values result (read_as_kind Name.Plain (object_data object.now)) }
+    ensures { IsReadResult pat_name_and_field_values result
+        (read_as_kind Name.Plain (object_data object.now)) }
 {
     let children = fields::children(alloc, object, "children")?;
     Ok(Pat::Plain { children })
 }
 
 fn other(alloc: Global, object: &Object<'_, '_>) -> Result<Pat, FormatFault>
-    ensures { IsReadResult pat_name_and_field_values result (read_as_kind Name.Other (object_data object.now)) }
+    ensures { IsReadResult pat_name_and_field_values result
+        (read_as_kind Name.Other (object_data object.now)) }
 {
     let children = fields::children(alloc, object, "children")?;
     Ok(Pat::Other { children })
@@ -99,7 +109,8 @@ pub(crate) fn pat(
     kind: &str,
     object: &Object<'_, '_>,
 ) -> Result<Option<Pat>, FormatFault>
-    ensures { IsReadResult (option_map pat_name_and_field_values) result (read_pat kind.now (object_data object.now)) }
+    ensures { IsReadResult (option_map pat_name_and_field_values) result
+        (read_pat kind.now (object_data object.now)) }
 {
     match kind {
         "BindingIdent" => some_kind(binding_ident(alloc, object)),

@@ -15,14 +15,16 @@ use std::alloc::Global;
 use symbols_ast::tree::Ty;
 
 fn ts_type_param_decl(alloc: Global, object: &Object<'_, '_>) -> Result<Ty, FormatFault>
-    ensures { IsReadResult ty_name_and_field_values result (read_as_kind Name.TsTypeParamDecl (object_data object.now)) }
+    ensures { IsReadResult ty_name_and_field_values result
+        (read_as_kind Name.TsTypeParamDecl (object_data object.now)) }
 {
     let params = fields::children(alloc, object, "params")?;
     Ok(Ty::TsTypeParamDecl { params })
 }
 
 fn ts_type_param(object: &Object<'_, '_>) -> Result<Ty, FormatFault>
-    ensures { IsReadResult ty_name_and_field_values result (read_as_kind Name.TsTypeParam (object_data object.now)) }
+    ensures { IsReadResult ty_name_and_field_values result
+        (read_as_kind Name.TsTypeParam (object_data object.now)) }
 {
     Ok(Ty::TsTypeParam {
         constraint: fields::optional_child(object, "constraint")?,
@@ -31,7 +33,8 @@ fn ts_type_param(object: &Object<'_, '_>) -> Result<Ty, FormatFault>
 }
 
 fn ts_type_param_instantiation(alloc: Global, object: &Object<'_, '_>) -> Result<Ty, FormatFault>
-    ensures { IsReadResult ty_name_and_field_values result (read_as_kind Name.TsTypeParamInstantiation (object_data object.now)) }
+    ensures { IsReadResult ty_name_and_field_values result
+        (read_as_kind Name.TsTypeParamInstantiation (object_data object.now)) }
 {
     let params = fields::children(alloc, object, "params")?;
     Ok(Ty::TsTypeParamInstantiation { params })
@@ -39,14 +42,16 @@ fn ts_type_param_instantiation(alloc: Global, object: &Object<'_, '_>) -> Result
 
 /// Tried before all other kinds, by `kinds`.
 pub(crate) fn ts_type_ann(object: &Object<'_, '_>) -> Result<Ty, FormatFault>
-    ensures { IsReadResult ty_name_and_field_values result (read_as_kind Name.TsTypeAnn (object_data object.now)) }
+    ensures { IsReadResult ty_name_and_field_values result
+        (read_as_kind Name.TsTypeAnn (object_data object.now)) }
 {
     let ty = fields::child(object, "ty")?;
     Ok(Ty::TsTypeAnn { ty })
 }
 
 fn ts_expr_with_type_args(object: &Object<'_, '_>) -> Result<Ty, FormatFault>
-    ensures { IsReadResult ty_name_and_field_values result (read_as_kind Name.TsExprWithTypeArgs (object_data object.now)) }
+    ensures { IsReadResult ty_name_and_field_values result
+        (read_as_kind Name.TsExprWithTypeArgs (object_data object.now)) }
 {
     let expr = fields::child(object, "expr")?;
     let type_args = fields::optional_child(object, "type_args")?;
@@ -54,7 +59,8 @@ fn ts_expr_with_type_args(object: &Object<'_, '_>) -> Result<Ty, FormatFault>
 }
 
 fn ts_as_expr(object: &Object<'_, '_>) -> Result<Ty, FormatFault>
-    ensures { IsReadResult ty_name_and_field_values result (read_as_kind Name.TsAsExpr (object_data object.now)) }
+    ensures { IsReadResult ty_name_and_field_values result
+        (read_as_kind Name.TsAsExpr (object_data object.now)) }
 {
     let expr = fields::child(object, "expr")?;
     let ty = fields::child(object, "ty")?;
@@ -62,7 +68,8 @@ fn ts_as_expr(object: &Object<'_, '_>) -> Result<Ty, FormatFault>
 }
 
 fn ts_type_assertion(object: &Object<'_, '_>) -> Result<Ty, FormatFault>
-    ensures { IsReadResult ty_name_and_field_values result (read_as_kind Name.TsTypeAssertion (object_data object.now)) }
+    ensures { IsReadResult ty_name_and_field_values result
+        (read_as_kind Name.TsTypeAssertion (object_data object.now)) }
 {
     let expr = fields::child(object, "expr")?;
     let ty = fields::child(object, "ty")?;
@@ -70,7 +77,8 @@ fn ts_type_assertion(object: &Object<'_, '_>) -> Result<Ty, FormatFault>
 }
 
 fn ts_type_query(object: &Object<'_, '_>) -> Result<Ty, FormatFault>
-    ensures { IsReadResult ty_name_and_field_values result (read_as_kind Name.TsTypeQuery (object_data object.now)) }
+    ensures { IsReadResult ty_name_and_field_values result
+        (read_as_kind Name.TsTypeQuery (object_data object.now)) }
 {
     Ok(Ty::TsTypeQuery {
         expr_name: fields::child(object, "expr_name")?,
@@ -79,7 +87,8 @@ fn ts_type_query(object: &Object<'_, '_>) -> Result<Ty, FormatFault>
 }
 
 fn ts_import_type(alloc: Global, object: &Object<'_, '_>) -> Result<Ty, FormatFault>
-    ensures { IsReadResult ty_name_and_field_values result (read_as_kind Name.TsImportType (object_data object.now)) }
+    ensures { IsReadResult ty_name_and_field_values result
+        (read_as_kind Name.TsImportType (object_data object.now)) }
 {
     Ok(Ty::TsImportType {
         arg: fields::text(alloc, object, "arg")?,
@@ -89,7 +98,8 @@ fn ts_import_type(alloc: Global, object: &Object<'_, '_>) -> Result<Ty, FormatFa
 }
 
 fn ts_tuple_element(object: &Object<'_, '_>) -> Result<Ty, FormatFault>
-    ensures { IsReadResult ty_name_and_field_values result (read_as_kind Name.TsTupleElement (object_data object.now)) }
+    ensures { IsReadResult ty_name_and_field_values result
+        (read_as_kind Name.TsTupleElement (object_data object.now)) }
 {
     let label = fields::optional_child(object, "label")?;
     let ty = fields::child(object, "ty")?;
@@ -97,7 +107,8 @@ fn ts_tuple_element(object: &Object<'_, '_>) -> Result<Ty, FormatFault>
 }
 
 fn ts_qualified_name(alloc: Global, object: &Object<'_, '_>) -> Result<Ty, FormatFault>
-    ensures { IsReadResult ty_name_and_field_values result (read_as_kind Name.TsQualifiedName (object_data object.now)) }
+    ensures { IsReadResult ty_name_and_field_values result
+        (read_as_kind Name.TsQualifiedName (object_data object.now)) }
 {
     let left = fields::child(object, "left")?;
     let right = fields::text(alloc, object, "right")?;
@@ -111,7 +122,8 @@ pub(crate) fn ty(
     kind: &str,
     object: &Object<'_, '_>,
 ) -> Result<Option<Ty>, FormatFault>
-    ensures { IsReadResult (option_map ty_name_and_field_values) result (read_ty kind.now (object_data object.now)) }
+    ensures { IsReadResult (option_map ty_name_and_field_values) result
+        (read_ty kind.now (object_data object.now)) }
 {
     match kind {
         "TsTypeParamDecl" => some_kind(ts_type_param_decl(alloc, object)),

@@ -26,8 +26,9 @@ fn tree_among<'a>(
 ) -> Result<Option<Tree>, FastPathFault>
     requires { retained.old.items ≡ [] }
     ensures { IfOk result (λ found. (there : Option spec.Json)
-        × ReadsMemberApart 124 reader.old reader.new (codes "tree") there (members_view retained.new.items)
-        × (value_in_optional_data as_tree (option_map json_data there) ≡ Some (option_map raw_tree_view found))) }
+        × ReadsMemberApart 124 reader.old reader.new
+        (codes "tree") there (members_view retained.new.items) × (value_in_optional_data as_tree
+        (option_map json_data there) ≡ Some (option_map raw_tree_view found))) }
 {
     if !members::pass_until(alloc, reader, 124, "tree", retained)? {
         return Ok(None);
@@ -41,7 +42,8 @@ fn tree_among<'a>(
 
 /// Returns the module with this tree; a kind without a tree stays as it is.
 fn module_shape_with_tree(read: RawModule, tree: Option<Tree>) -> RawModule
-    ensures { raw_module_view result ≡ module_shape_with_tree (option_map raw_tree_view tree) (raw_module_view read) }
+    ensures { raw_module_view result
+        ≡ module_shape_with_tree (option_map raw_tree_view tree) (raw_module_view read) }
 {
     let RawModule { specifier, kind } = read;
     let kind = match kind {
@@ -82,7 +84,8 @@ pub(crate) fn more_modules(
     reader: &mut Reader<'_>,
     found: &mut Vec<RawModule>,
 ) -> Result<(), FastPathFault>
-    ensures { OnOk result (ReadsModulesToEnd reader.old reader.new found.old.items found.new.items) }
+    ensures { OnOk result
+        (ReadsModulesToEnd reader.old reader.new found.old.items found.new.items) }
 {
     'items: while !reader.take_end_array() {
         found.push(module(alloc, reader)?)?;
@@ -121,8 +124,9 @@ pub(crate) fn modules_among<'a>(
 ) -> Result<Vec<RawModule>, FastPathFault>
     requires { retained.old.items ≡ [] }
     ensures { IfOk result (λ found. (there : Option spec.Json)
-        × ReadsMemberApart 126 reader.old reader.new (codes "modules") there (members_view retained.new.items)
-        × (list_in_optional_data as_module (option_map json_data there) ≡ Some (map raw_module_view found.items))) }
+        × ReadsMemberApart 126 reader.old reader.new
+        (codes "modules") there (members_view retained.new.items) × (list_in_optional_data as_module
+        (option_map json_data there) ≡ Some (map raw_module_view found.items))) }
 {
     if !members::pass_until(alloc, reader, 126, "modules", retained)? {
         return Ok(Vec::new(alloc));

@@ -87,8 +87,9 @@ fn nodes_among<'a>(
 ) -> Result<Vec<Node>, FastPathFault>
     requires { retained.old.items ≡ [] }
     ensures { IfOk result (λ found. (there : Option spec.Json)
-        × ReadsMemberApart 123 reader.old reader.new (codes "nodes") there (members_view retained.new.items)
-        × (list_in_optional_data as_node (option_map json_data there) ≡ Some (map raw_node_view found.items))) }
+        × ReadsMemberApart 123 reader.old reader.new
+        (codes "nodes") there (members_view retained.new.items) × (list_in_optional_data as_node
+        (option_map json_data there) ≡ Some (map raw_node_view found.items))) }
 {
     if !members::pass_until(alloc, reader, 123, "nodes", retained)? {
         return Ok(Vec::new(alloc));

@@ -41,18 +41,18 @@ one_more before was now lookups more counted = omega (arith, more, counted)
 pub returns-in_err-insert-clause-faults : goal.returns-in_err-insert-clause-faults
 returns-in_err-insert-clause-faults c =
     let known : c.args.module_id.0 < length c.args.root.now.stored = c.requires.known in
-    on_memory (Broken c.args.name_filter c.args.root.now c.args.module_id c.args.root.now c.args.counter.now.count c.args.counter.now.count) c.from_residual.result
-    c.from_residual.ensures.1
-    (broken_off c.args.name_filter c.args.root.now c.args.module_id c.args.root.now c.args.counter.now.count c.args.counter.now.count 0 OutOfMemory (omega arith)
-    (walking.begun_cut c.args.name_filter c.args.root.now c.args.module_id known))
+    on_memory (Broken c.args.name_filter c.args.root.now c.args.module_id c.args.root.now c.args.counter.now.count c.args.counter.now.count)
+    c.from_residual.result c.from_residual.ensures.1
+    (broken_off c.args.name_filter c.args.root.now c.args.module_id c.args.root.now c.args.counter.now.count c.args.counter.now.count 0 OutOfMemory
+    (omega arith) (walking.begun_cut c.args.name_filter c.args.root.now c.args.module_id known))
 
 pub returns-in_err-collect_from_module-clause-faults : goal.returns-in_err-collect_from_module-clause-faults
 returns-in_err-collect_from_module-clause-faults c =
     let known : c.args.module_id.0 < length c.args.root.now.stored = c.requires.known in
     on_memory (Broken c.args.name_filter c.args.root.now c.args.module_id c.args.root.now c.args.counter.now.count c.args.counter.now.count)
     c.from_residual-in_err-collect_from_module.result c.from_residual-in_err-collect_from_module.ensures.1
-    (broken_off c.args.name_filter c.args.root.now c.args.module_id c.args.root.now c.args.counter.now.count c.args.counter.now.count 0 OutOfMemory (omega arith)
-    (walking.begun_cut c.args.name_filter c.args.root.now c.args.module_id known))
+    (broken_off c.args.name_filter c.args.root.now c.args.module_id c.args.root.now c.args.counter.now.count c.args.counter.now.count 0 OutOfMemory
+    (omega arith) (walking.begun_cut c.args.name_filter c.args.root.now c.args.module_id known))
 
 pub walk-init : goal.walk-init
 walk-init c =

@@ -17,6 +17,7 @@ returns-in-Some-clause-found c =
 pub returns-clause-found : goal.returns-clause-found
 returns-clause-found c =
     let absent : get_by_text c.args.tables.now c.as_str.result.now ≡ None = sym c.get_mut.ensures.value ∙ ap option_copied_mut c.in_default.is in
-    IfOk-weaker c.put-3.result _ _ (λ _ outer. resolved_specifier_in_maps-first c.args.tables.now c.as_str.result.now c.args.row.referrer c.args.row.specifier_text
+    IfOk-weaker c.put-3.result _ _
+    (λ _ outer. resolved_specifier_in_maps-first c.args.tables.now c.as_str.result.now c.args.row.referrer c.args.row.specifier_text
     c.args.row.specifier c.as_str.ensures.value c.get_mut.follows.lender-at-none c.put-3.new.named c.with_hasher-table.result c.put-2.new.named
     c.get_mut.follows.holds-at-none absent c.with_hasher-table.ensures.empty outer c.in_ok-put.ensures.updates) c.put-3.ensures.updates

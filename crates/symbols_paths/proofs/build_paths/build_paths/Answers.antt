@@ -15,22 +15,25 @@ loop-builder-init c =
 pub loop-builder-preserved-in-End : goal.loop-builder-preserved-in-End
 loop-builder-preserved-in-End c =
     let x = c.in_ok-more-in-End in
-    building_end c.loop-builder.rest.items c.pop.new.self.items c.in-Some.builder x.more.items c.in-Some.ensures.items c.in_ok-append-in-End.ensures.items c.loop-builder.invariant
+    building_end c.loop-builder.rest.items c.pop.new.self.items c.in-Some.builder x.more.items
+    c.in-Some.ensures.items c.in_ok-paths-in-End.ensures c.loop-builder.invariant
     (λ root. x.ensures.view root ∙ ap (built_path root) (sym c.in-End.ensures))
     (λ root a. x.ensures.stored root (subst (λ b. AreModulesStored root (modules_of_builder b)) c.in-End.ensures a))
 
 pub loop-builder-preserved-in-Fork : goal.loop-builder-preserved-in-Fork
 loop-builder-preserved-in-Fork c =
     let x = c.in-Fork in
-    building_fork c.loop-builder.rest.items c.pop.new.self.items c.reverse-in-Fork.new.self.items c.loop-builder.forks.items c.push-in-Fork.new.self.items x.segments x.branches x.last c.in-Some.builder _ c.in-Some.ensures.items x.ensures
+    building_fork c.loop-builder.rest.items c.pop.new.self.items c.reverse-in-Fork.new.self.items c.loop-builder.forks.items
+    c.push-in-Fork.new.self.items x.segments x.branches x.last c.in-Some.builder _ c.in-Some.ensures.items x.ensures
     (c.reverse-in-Fork.ensures.items ∙ ap reverse (c.in_ok-push-in-Fork.ensures.items ∙ ap (λ b. x.branches.items ++ b ∷ []) c.into_inner.ensures))
     c.in_ok-push-in-Fork-2.ensures.items refl refl refl c.new-paths-in-Fork.ensures.items c.loop-builder.invariant
 
 pub loop-builder-preserved : goal.loop-builder-preserved
 loop-builder-preserved c =
     let rest = c.loop-builder.rest in
-    building_close rest.items c.loop-builder.forks.items c.pop-in_default.new.self.items c.in-Some-pop.fork c.in_ok-more.more.items (nil_from_length rest.items (omega (arith, c.in_default.ensures.cases.0, rest.ok.0)))
-    c.in-Some-pop.ensures.items c.in_ok-append.ensures.items c.loop-builder.invariant c.in_ok-more.ensures.view c.in_ok-more.ensures.stored
+    building_close rest.items c.loop-builder.forks.items c.pop-in_default.new.self.items c.in-Some-pop.fork c.in_ok-more.more.items
+    (nil_from_length rest.items (omega (arith, c.in_default.ensures.cases.0, rest.ok.0)))
+    c.in-Some-pop.ensures.items c.in_ok-paths.ensures c.loop-builder.invariant c.in_ok-more.ensures.view c.in_ok-more.ensures.stored
 
 pub loop-builder-smaller-in-End : goal.loop-builder-smaller-in-End
 loop-builder-smaller-in-End c =

@@ -13,7 +13,8 @@ loop-builder-init c = subst (λ rest. AreBuilderEndsSo c.args.left.now.items res
 pub loop-builder-preserved-in-End : goal.loop-builder-preserved-in-End
 loop-builder-preserved-in-End c =
     let x = c.in-End in
-    ends_in_end c.loop-builder.stack.items c.pop.new.self.items x._segments x.end c.in-Some.builder c.in-Some.ensures.items x.ensures c.in_ok-push_back-in-End.ensures.items c.loop-builder.invariant
+    ends_in_end c.loop-builder.stack.items c.pop.new.self.items x._segments x.end c.in-Some.builder
+    c.in-Some.ensures.items x.ensures c.in_ok-push_back-in-End.ensures.items c.loop-builder.invariant
 
 pub loop-builder-preserved : goal.loop-builder-preserved
 loop-builder-preserved c =

@@ -6,7 +6,6 @@ use Rattle.symbols_paths.specs.inner.Needed.{IsNeededFrom}
 use Rattle.symbols_paths.specs.laws.Storing.{fault_of_storing_one_of_more, newly_stored_among_more}
 use Rattle.symbols_paths.proofs.Needing.{needed_in_newer}
 use Rattle.symbols_paths.proofs.Answering.{paths_found, paths_listed, no_symbol_there, symbol_there}
-use Rattle.symbols_paths.proofs.Results.{on_both}
 use Rattle.symbols_paths.proofs.find_definitions.path_builders.Goals as goal
 
 pub returns-then-is_none-clause-enough : goal.returns-then-is_none-clause-enough
@@ -23,18 +22,14 @@ returns-then-is_none-clause-faults c = inr (inl (record {
 }))
 
 pub returns-clause-answers : goal.returns-clause-answers
-returns-clause-answers c =
-    let found = rw (c.new-visited.ensures.empty, c.new-resolving.ensures.empty) at c.find_definition_paths_internal.ensures.found in
-    let visits = rw c.new-visited.ensures.empty at c.find_definition_paths_internal.ensures.visits in
-    on_both c.find_definition_paths_internal.result (λ builders is so. paths_found builders.items (c.in-Some.ensures.found.0 refl) c.new-symbol.ensures.module
-    c.new-symbol.ensures.symbol c.find_definition_paths_internal.ensures.after_call.keeps.grown is so) found visits
+returns-clause-answers c = IfOk-weaker c.find_definition_paths_internal.result _ _ (λ builders outcome. paths_found builders.items
+    (c.in-Some.ensures.found.0 refl) c.new.ensures.module c.new.ensures.symbol c.find_definition_paths_internal.ensures.keeps.grown outcome)
+    c.find_definition_paths_internal.ensures.found
 
 pub returns-clause-listed : goal.returns-clause-listed
-returns-clause-listed c =
-    let found = rw (c.new-visited.ensures.empty, c.new-resolving.ensures.empty) at c.find_definition_paths_internal.ensures.found in
-    let visits = rw c.new-visited.ensures.empty at c.find_definition_paths_internal.ensures.visits in
-    on_both c.find_definition_paths_internal.result (λ builders is so. paths_listed builders.items (c.in-Some.ensures.found.0 refl) c.new-symbol.ensures.module
-    c.new-symbol.ensures.symbol c.find_definition_paths_internal.ensures.after_call.keeps.grown is so) found visits
+returns-clause-listed c = IfOk-weaker c.find_definition_paths_internal.result _ _ (λ builders outcome. paths_listed builders.items
+    (c.in-Some.ensures.found.0 refl) c.new.ensures.module c.new.ensures.symbol c.find_definition_paths_internal.ensures.keeps.grown outcome)
+    c.find_definition_paths_internal.ensures.found
 
 pub returns-clause-known : goal.returns-clause-known
 returns-clause-known c =
@@ -44,7 +39,8 @@ returns-clause-known c =
     c.find_definition_paths_internal.ensures.found
 
 pub returns-clause-stored : goal.returns-clause-stored
-returns-clause-stored c = IfOk-weaker c.find_definition_paths_internal.result _ _ (λ builders is. is.stored) c.find_definition_paths_internal.ensures.visits
+returns-clause-stored c = IfOk-weaker c.find_definition_paths_internal.result _ _ (λ builders outcome. outcome.searched.stored)
+    c.find_definition_paths_internal.ensures.found
 
 pub returns-clause-faults : goal.returns-clause-faults
 returns-clause-faults c =
@@ -54,11 +50,11 @@ returns-clause-faults c =
     inr (inr (record {
       known = c.in-Some.ensures.found.0 refl;
       has_symbol = has;
-      refused = fault_of_storing_one_of_more refused (λ v needed. needed_in_newer c.find_definition_paths_internal.ensures.after_call.keeps.grown
-          (subst (λ (id : ModuleId). IsNeededFrom c.args.root.now id [] v) c.new-symbol.ensures.module needed));
+      refused = fault_of_storing_one_of_more refused (λ v needed. needed_in_newer c.find_definition_paths_internal.ensures.keeps.grown
+          (subst (λ (id : ModuleId). IsNeededFrom c.args.root.now id [] v) c.new.ensures.module needed));
     })))
-    c.find_definition_paths_internal.ensures.after_call.keeps.refused
+    c.find_definition_paths_internal.ensures.keeps.refused
 
 pub returns-clause-stores : goal.returns-clause-stores
 returns-clause-stores c = newly_stored_among_more c.find_definition_paths_internal.ensures.stores
-    (λ v needed. subst (λ (id : ModuleId). IsNeededFrom c.args.root.now id [] v) c.new-symbol.ensures.module needed)
+    (λ v needed. subst (λ (id : ModuleId). IsNeededFrom c.args.root.now id [] v) c.new.ensures.module needed)

@@ -23,7 +23,8 @@ loop-builder-preserved-in-Continue-branch-2 c =
     let x = c.in-End in
     let put = c.in_ok-builder-in-End in
     let end = c.replace_end-end in
-    replacing_end c.loop-builder.rest.items c.pop.new.self.items c.in-Some.builder put.builder c.in-Some.ensures.items c.in_ok-push_builder-in-End.ensures c.loop-builder.invariant
+    replacing_end c.loop-builder.rest.items c.pop.new.self.items c.in-Some.builder put.builder
+    c.in-Some.ensures.items c.in_ok-push_builder-in-End.ensures c.loop-builder.invariant
     (λ root.
     let ready = map (built_paths_of_option root) c.loop-builder.changed.items in
     put.ensures.view root
@@ -44,7 +45,8 @@ loop-builder-preserved-in-Continue-branch-2 c =
 pub loop-builder-preserved-in-Fork : goal.loop-builder-preserved-in-Fork
 loop-builder-preserved-in-Fork c =
     let x = c.in-Fork in
-    replacing_fork c.loop-builder.rest.items c.pop.new.self.items c.reverse-in-Fork.new.self.items c.loop-builder.forks.items c.push-in-Fork.new.self.items x.segments x.branches x.last c.in-Some.builder _ c.in-Some.ensures.items x.ensures
+    replacing_fork c.loop-builder.rest.items c.pop.new.self.items c.reverse-in-Fork.new.self.items c.loop-builder.forks.items
+    c.push-in-Fork.new.self.items x.segments x.branches x.last c.in-Some.builder _ c.in-Some.ensures.items x.ensures
     (c.reverse-in-Fork.ensures.items ∙ ap reverse (c.in_ok-push-in-Fork.ensures.items ∙ ap (λ b. x.branches.items ++ b ∷ []) c.into_inner.ensures))
     c.in_ok-push-in-Fork-2.ensures.items refl refl refl c.new-found-in-Fork.ensures.items c.loop-builder.invariant
 
@@ -53,7 +55,8 @@ loop-builder-preserved c =
     let ps = remaining_parts c.args.parts.now in
     let rest = c.loop-builder.rest in
     let fork = c.in-Some-pop.fork in
-    replacing_close rest.items c.loop-builder.forks.items c.pop-in_default.new.self.items fork c.in_ok-builder.builder (nil_from_length rest.items (omega (arith, c.in_default.ensures.cases.0, rest.ok.0)))
+    replacing_close rest.items c.loop-builder.forks.items c.pop-in_default.new.self.items fork c.in_ok-builder.builder
+    (nil_from_length rest.items (omega (arith, c.in_default.ensures.cases.0, rest.ok.0)))
     c.in-Some-pop.ensures.items c.in_ok-push_builder.ensures c.loop-builder.invariant
     (λ root. c.in_ok-builder.ensures.view root
     ∙ ap (forest_below_reversed_links (link_heads_with_parts_replaced ps (reversed_link_heads_of_segments root fork.segments.items)))

@@ -4,9 +4,8 @@ use Rattle.symbols_root.specs.Roots.{specifier_in}
 use Rattle.symbols_paths.specs.PathTrees.{PathForest, leaves_of_forest, definitions_among}
 use Rattle.symbols_paths.specs.Views.{remaining_definitions}
 use Rattle.symbols_answers.specs.Questions.{query_definitions}
-use Rattle.symbols_answers.specs.Answers.{answer_definitions}
-use Rattle.symbols_answers.specs.Stored.{module_of_definition_view}
-use Rattle.symbols_queries.specs.AnswerViews.{definition_by_specifier_view}
+use Rattle.symbols_answers.specs.Answers.{answer_definitions, module_of_definition_view}
+use Rattle.symbols_queries.specs.Queries.{definition_by_specifier_view}
 use Rattle.symbols_queries.proofs.QueriesAnswered.{memory_refused, paths_given, paths_answered, paths_refused, paths_enough}
 use Rattle.symbols_queries.proofs.PathModules.{definitions_there}
 use Rattle.symbols_paths.specs.laws.Storing.{newly_stored_among_more}

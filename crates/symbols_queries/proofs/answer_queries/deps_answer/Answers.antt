@@ -2,7 +2,7 @@ use Rattle.std.proofs.Common.{map}
 use Rattle.symbols_table.specs.Modules.{symbol_table_of_ref}
 use Rattle.symbols_root.specs.Roots.{specifier_in}
 use Rattle.symbols_answers.specs.Questions.{query_deps}
-use Rattle.symbols_queries.specs.AnswerViews.{deps_view}
+use Rattle.symbols_queries.specs.Queries.{deps_view}
 use Rattle.symbols_queries.proofs.QueriesAnswered.{memory_refused, deps_given, deps_answered, no_deps}
 use Rattle.symbols_queries.proofs.answer_queries.deps_answer.Goals as goal
 

@@ -4,8 +4,8 @@ use Rattle.symbols_nodes.specs.References.{reference_view}
 use Rattle.symbols_root.specs.Roots.{specifier_in}
 use Rattle.symbols_paths.specs.DepAnswers.{AreResolvedEntriesOfReference}
 use Rattle.symbols_answers.specs.Questions.{query_resolve}
-use Rattle.symbols_answers.specs.Stored.{modules_of_dep_entry}
-use Rattle.symbols_queries.specs.AnswerViews.{dep_entry_view}
+use Rattle.symbols_answers.specs.Answers.{modules_of_dep_entry}
+use Rattle.symbols_queries.specs.Queries.{dep_entry_view}
 use Rattle.symbols_queries.proofs.QueriesAnswered.{memory_refused, entries_given, entries_answered, entries_refused}
 use Rattle.symbols_queries.proofs.PathModules.{entries_there}
 use Rattle.symbols_paths.specs.laws.Storing.{newly_stored_among_more}

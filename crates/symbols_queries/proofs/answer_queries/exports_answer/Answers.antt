@@ -2,7 +2,7 @@ use Rattle.std.proofs.Common.{map, option_map, rules}
 use Rattle.symbols_root.specs.Roots.{specifier_in}
 use Rattle.symbols_exports.specs.CollectedNames.{resolved_export_views, resolved_shared_name_views, unresolved_star_view}
 use Rattle.symbols_answers.specs.Questions.{query_exports}
-use Rattle.symbols_queries.specs.AnswerViews.{star_statement_by_specifier_view, export_view, shared_names_view}
+use Rattle.symbols_queries.specs.Queries.{star_statement_by_specifier_view, export_view, shared_names_view}
 use Rattle.symbols_queries.proofs.QueriesAnswered.{memory_refused, exports_given, exports_answered, exports_refused}
 use Rattle.symbols_paths.specs.laws.Storing.{newly_stored_among_more}
 use Rattle.symbols_queries.proofs.StoredForQuery.{stores_reached, stores_until_fault}

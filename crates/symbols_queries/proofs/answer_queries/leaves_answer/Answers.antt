@@ -4,9 +4,8 @@ use Rattle.symbols_root.specs.Roots.{specifier_in}
 use Rattle.symbols_paths.specs.PathTrees.{PathForest, leaves_of_forest}
 use Rattle.symbols_paths.specs.Views.{remaining_ends}
 use Rattle.symbols_answers.specs.Questions.{query_leaves}
-use Rattle.symbols_answers.specs.Answers.{answer_leaves}
-use Rattle.symbols_answers.specs.Stored.{module_of_leaf}
-use Rattle.symbols_queries.specs.AnswerViews.{path_end_view}
+use Rattle.symbols_answers.specs.Answers.{answer_leaves, module_of_leaf}
+use Rattle.symbols_queries.specs.Queries.{path_end_view}
 use Rattle.symbols_queries.proofs.QueriesAnswered.{memory_refused, paths_given, paths_answered, paths_refused, paths_enough}
 use Rattle.symbols_queries.proofs.PathModules.{ends_there}
 use Rattle.symbols_paths.specs.laws.Storing.{newly_stored_among_more}

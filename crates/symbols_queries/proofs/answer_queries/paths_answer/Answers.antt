@@ -4,9 +4,8 @@ use Rattle.symbols_root.specs.Roots.{specifier_in}
 use Rattle.symbols_paths.specs.PathTrees.{PathForest}
 use Rattle.symbols_paths.specs.Views.{paths_by_specifier}
 use Rattle.symbols_answers.specs.Questions.{query_paths}
-use Rattle.symbols_answers.specs.Answers.{answer_paths}
-use Rattle.symbols_answers.specs.Stored.{modules_of_path_forest}
-use Rattle.symbols_queries.specs.AnswerViews.{path_forest_view}
+use Rattle.symbols_answers.specs.Answers.{answer_paths, modules_of_path_forest}
+use Rattle.symbols_queries.specs.Queries.{path_forest_view}
 use Rattle.symbols_queries.proofs.QueriesAnswered.{memory_refused, paths_given, paths_answered, paths_refused, paths_enough}
 use Rattle.symbols_queries.proofs.PathModules.{paths_there}
 use Rattle.symbols_paths.specs.laws.Storing.{newly_stored_among_more}

@@ -3,7 +3,7 @@ use Rattle.symbols_ast.specs.declared.ids.ModuleId.{ModuleId}
 use Rattle.std.specs.Prelude.{filter_map}
 use Rattle.symbols_exports.specs.ExportChains.{statements_of_chain, remaining_chain_suffixes}
 use Rattle.symbols_exports.specs.ExportViews.{star_statement_by_specifier}
-use Rattle.symbols_queries.specs.AnswerViews.{star_statement_by_specifier_view}
+use Rattle.symbols_queries.specs.Queries.{star_statement_by_specifier_view}
 use Rattle.symbols_queries.proofs.Naming.{AreNamed, named_next, first_statement}
 use Rattle.symbols_queries.proofs.Known.{chain_first, chain_left, chain_rest}
 use Rattle.symbols_queries.proofs.exports_by_specifier.chain_by_specifier.Goals as goal

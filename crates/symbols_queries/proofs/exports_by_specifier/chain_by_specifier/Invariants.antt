@@ -2,7 +2,7 @@ use Rattle.symbols_exports.specs.ExportChains.{statements_of_chain, remaining_ch
 use Rattle.symbols_exports.specs.ExportViews.{star_statement_by_specifier, AreReferrersOfStarsStored}
 use Rattle.std.proofs.Common.{◌≡◌, ◌++◌, map}
 use Rattle.std.specs.Prelude.{filter_map}
-use Rattle.symbols_queries.specs.AnswerViews.{star_statement_by_specifier_view}
+use Rattle.symbols_queries.specs.Queries.{star_statement_by_specifier_view}
 use Rattle.symbols_queries.proofs.Naming.{first_statement}
 use Rattle.symbols_queries.proofs.exports_by_specifier.chain_by_specifier.Given as goal
 

@@ -4,7 +4,7 @@ use Rattle.std.specs.Global.{Global}
 use Rattle.symbols_exports.specs.declared.export_chain.ResolvedExportOrReExportAllPath.{ResolvedExportOrReExportAllPath}
 use Rattle.symbols_exports.specs.CollectedNames.{resolved_export_view, resolved_export_views}
 use Rattle.symbols_exports.specs.ExportViews.{export_by_specifier, AreModulesOfExportStored}
-use Rattle.symbols_queries.specs.AnswerViews.{export_view}
+use Rattle.symbols_queries.specs.Queries.{export_view}
 use Rattle.symbols_queries.proofs.Naming.{AreNamed, named_next}
 use Rattle.symbols_queries.proofs.Known.{mapped_first, mapped_rest}
 use Rattle.symbols_queries.proofs.exports_by_specifier.export_list_by_specifier.Goals as goal

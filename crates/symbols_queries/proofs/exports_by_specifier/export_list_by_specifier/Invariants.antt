@@ -1,7 +1,7 @@
 use Rattle.std.proofs.Common.{◌≡◌, ◌++◌, map}
 use Rattle.symbols_exports.specs.CollectedNames.{resolved_export_views}
 use Rattle.symbols_exports.specs.ExportViews.{export_by_specifier, AreModulesOfExportsStored}
-use Rattle.symbols_queries.specs.AnswerViews.{export_view}
+use Rattle.symbols_queries.specs.Queries.{export_view}
 use Rattle.symbols_queries.proofs.exports_by_specifier.export_list_by_specifier.Given as goal
 
 abbrev pub invariant-loop-name : goal.invariant-loop-name

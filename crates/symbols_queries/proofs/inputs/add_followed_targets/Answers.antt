@@ -3,7 +3,7 @@ use Rattle.std.proofs.lemmas.Result.{on_ok_weaker}
 use Rattle.symbols_table.specs.Modules.{symbol_table_of_ref}
 use Rattle.symbols_root.specs.Roots.{specifier_in}
 use Rattle.symbols_exports.specs.StarStatements.{star_specifiers}
-use Rattle.symbols_answers.specs.InputLists.{append_resolved_specifiers, star_and_import_specifiers, followed_specifiers}
+use Rattle.symbols_answers.specs.Questions.{append_resolved_specifiers, star_and_import_specifiers, followed_specifiers}
 use Rattle.symbols_queries.specs.Queries.{query_view}
 use Rattle.symbols_queries.specs.declared.query.Query.{Query}
 use Rattle.symbols_queries.proofs.StoredSpecifiers.{stars_requested, stars_and_imports_requested}

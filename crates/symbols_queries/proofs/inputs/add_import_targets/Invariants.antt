@@ -3,7 +3,7 @@ use Rattle.std.specs.Prelude.{flat_map}
 use Rattle.symbols_table.specs.declared.decl.symbol.Symbol.{Symbol}
 use Rattle.symbols_table.specs.Modules.{symbol_table_of_ref}
 use Rattle.symbols_table.specs.Symbols.{symbol_decls}
-use Rattle.symbols_answers.specs.InputLists.{append_resolved_specifiers, import_specifiers_among}
+use Rattle.symbols_answers.specs.Questions.{append_resolved_specifiers, import_specifiers_among}
 use Rattle.symbols_queries.proofs.inputs.add_import_targets.Given as goal
 
 abbrev pub invariant-loop-symbol : goal.invariant-loop-symbol

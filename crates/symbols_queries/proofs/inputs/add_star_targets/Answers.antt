@@ -2,7 +2,7 @@ use Rattle.std.proofs.Common.{◌≡◌, [], ◌∷◌, map, slice_get, Some, No
 use Rattle.std.proofs.lemmas.Option.{slice_get-map}
 use Rattle.symbols_table.specs.Changes.{ExportStarStatement}
 use Rattle.symbols_table.specs.Modules.{symbol_table_of_ref}
-use Rattle.symbols_answers.specs.InputLists.{append_resolved_specifiers}
+use Rattle.symbols_answers.specs.Questions.{append_resolved_specifiers}
 use Rattle.symbols_queries.proofs.TargetLists.{target_more, targets_all}
 use Rattle.symbols_queries.proofs.inputs.add_star_targets.Goals as goal
 

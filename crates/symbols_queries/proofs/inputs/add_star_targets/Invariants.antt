@@ -1,6 +1,6 @@
 use Rattle.std.proofs.Common.{◌≡◌, ◌-◌, ◌^◌, map, take}
 use Rattle.symbols_table.specs.Modules.{symbol_table_of_ref}
-use Rattle.symbols_answers.specs.InputLists.{append_resolved_specifiers}
+use Rattle.symbols_answers.specs.Questions.{append_resolved_specifiers}
 use Rattle.symbols_queries.proofs.inputs.add_star_targets.Given as goal
 
 abbrev pub invariant-loop-specifier_text : goal.invariant-loop-specifier_text

@@ -1,6 +1,6 @@
 use Rattle.std.proofs.Common.{◌≡◌, [], ◌∷◌, sym, ap, ◌∙◌, arith}
 use Rattle.symbols_table.specs.DeclViews.{decl_view}
-use Rattle.symbols_answers.specs.InputLists.{append_resolved_specifiers, import_specifiers_among}
+use Rattle.symbols_answers.specs.Questions.{append_resolved_specifiers, import_specifiers_among}
 use Rattle.symbols_queries.proofs.TargetLists.{decl_more, decl_imports, decl_imports_nothing}
 use Rattle.symbols_queries.proofs.inputs.add_symbol_targets.Goals as goal
 use Rattle.symbols_queries.proofs.inputs.add_symbol_targets.Goals.{in-FileRef+in_ok-add_target, in_default}

@@ -1,6 +1,6 @@
 use Rattle.std.proofs.Common.{◌≡◌, ◌<◌, length, option_copied, sym, ap, ◌∙◌, arith}
 use Rattle.std.proofs.lemmas.Option.{slice_get_within}
-use Rattle.symbols_answers.specs.InputLists.{append_types_dependency}
+use Rattle.symbols_answers.specs.Questions.{append_types_dependency}
 use Rattle.symbols_queries.proofs.TypesWalks.{walking_first, walking_next, walking_over, types_found, no_types, no_module}
 use Rattle.symbols_queries.proofs.inputs.add_types_dependencies.Goals as goal
 use Rattle.symbols_queries.proofs.inputs.add_types_dependencies.Goals.{in-Some-get+in-Some-types_dependency+in_ok-add}

@@ -1,7 +1,7 @@
 use Rattle.std.proofs.Common.{ℕ, ◌<◌, List, [], ◌∷◌, length, sym, ap, ◌∙◌, arith}
 use Rattle.std.proofs.lemmas.Option.{slice_get_within}
 use Rattle.symbols_root.specs.laws.Growing.{has_grown_trans}
-use Rattle.symbols_answers.specs.InputLists.{append_resolved_import_type}
+use Rattle.symbols_answers.specs.Questions.{append_resolved_import_type}
 use Rattle.symbols_queries.specs.Queries.{query_view}
 use Rattle.symbols_queries.proofs.Requesting.{requesting_first, requesting_next_by, requesting_over, requested_stored, keeps_at_err, keeps_out_of_memory}
 use Rattle.symbols_queries.proofs.Requesting.{stored_so_far}

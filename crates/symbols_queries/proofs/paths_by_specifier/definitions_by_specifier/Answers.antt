@@ -1,6 +1,6 @@
 use Rattle.std.proofs.Common.{subst}
 use Rattle.symbols_paths.specs.Views.{definition_by_specifier, remaining_definitions, module_of_definition}
-use Rattle.symbols_queries.specs.AnswerViews.{definition_by_specifier_view}
+use Rattle.symbols_queries.specs.Queries.{definition_by_specifier_view}
 use Rattle.symbols_queries.proofs.Naming.{AreNamed, named_next}
 use Rattle.symbols_queries.proofs.Known.{IsKnown, mapped_first, mapped_rest}
 use Rattle.symbols_queries.proofs.paths_by_specifier.definitions_by_specifier.Goals as goal

@@ -1,6 +1,6 @@
 use Rattle.std.proofs.Common.{map}
 use Rattle.symbols_paths.specs.Views.{definition_by_specifier, remaining_definitions, module_of_definition, AreModulesStored}
-use Rattle.symbols_queries.specs.AnswerViews.{definition_by_specifier_view}
+use Rattle.symbols_queries.specs.Queries.{definition_by_specifier_view}
 use Rattle.symbols_queries.proofs.Naming.{AreNamed}
 use Rattle.symbols_queries.proofs.paths_by_specifier.definitions_by_specifier.Given as goal
 

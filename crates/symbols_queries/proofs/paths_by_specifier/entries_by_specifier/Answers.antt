@@ -1,6 +1,6 @@
 use Rattle.std.proofs.Common.{subst}
 use Rattle.symbols_paths.specs.DepAnswers.{resolved_dep_entry_view, modules_of_entry}
-use Rattle.symbols_queries.specs.AnswerViews.{dep_entry_view}
+use Rattle.symbols_queries.specs.Queries.{dep_entry_view}
 use Rattle.symbols_queries.proofs.Naming.{AreNamed, named_next}
 use Rattle.symbols_queries.proofs.Known.{joined_first, joined_rest}
 use Rattle.symbols_queries.proofs.paths_by_specifier.entries_by_specifier.Goals as goal

@@ -1,6 +1,6 @@
 use Rattle.symbols_paths.specs.DepAnswers.{resolved_dep_entry_view, modules_of_entries}
 use Rattle.symbols_paths.specs.Views.{AreModulesStored}
-use Rattle.symbols_queries.specs.AnswerViews.{dep_entry_view}
+use Rattle.symbols_queries.specs.Queries.{dep_entry_view}
 use Rattle.symbols_queries.proofs.Naming.{AreNamed}
 use Rattle.symbols_queries.proofs.paths_by_specifier.entries_by_specifier.Given as goal
 

@@ -1,6 +1,6 @@
 use Rattle.std.proofs.Common.{subst}
 use Rattle.symbols_paths.specs.Views.{path_leaf_of_end, remaining_ends, module_of_end}
-use Rattle.symbols_queries.specs.AnswerViews.{path_end_view}
+use Rattle.symbols_queries.specs.Queries.{path_end_view}
 use Rattle.symbols_queries.proofs.Naming.{AreNamed, named_next}
 use Rattle.symbols_queries.proofs.Known.{IsKnown, mapped_first, mapped_rest}
 use Rattle.symbols_queries.proofs.paths_by_specifier.path_ends_by_specifier.Goals as goal

@@ -1,6 +1,6 @@
 use Rattle.std.proofs.Common.{map}
 use Rattle.symbols_paths.specs.Views.{path_leaf_of_end, remaining_ends, module_of_end, AreModulesStored}
-use Rattle.symbols_queries.specs.AnswerViews.{path_end_view}
+use Rattle.symbols_queries.specs.Queries.{path_end_view}
 use Rattle.symbols_queries.proofs.Naming.{AreNamed}
 use Rattle.symbols_queries.proofs.paths_by_specifier.path_ends_by_specifier.Given as goal
 

@@ -2,7 +2,7 @@ use Rattle.std.proofs.Common.{sym, subst, arith}
 use Rattle.std.specs.Prelude.{string_bytes}
 use Rattle.symbols_exports.specs.CollectedNames.{resolved_chain_view}
 use Rattle.symbols_exports.specs.ExportViews.{export_by_specifier, AreModulesOfExportStored}
-use Rattle.symbols_queries.specs.AnswerViews.{exporter_view}
+use Rattle.symbols_queries.specs.Queries.{exporter_view}
 use Rattle.symbols_queries.proofs.Known.{mapped_at}
 use Rattle.symbols_queries.proofs.Naming.{named_more}
 use Rattle.symbols_queries.proofs.shared_name_by_specifier.exporters_by_specifier.Goals as goal

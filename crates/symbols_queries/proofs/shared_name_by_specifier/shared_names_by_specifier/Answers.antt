@@ -5,7 +5,7 @@ use Rattle.symbols_exports.specs.SharedNames.{NameWithExporters}
 use Rattle.symbols_exports.specs.SharedNameLists.{shared_name_view_of_resolved}
 use Rattle.symbols_exports.specs.CollectedNames.{ResolvedExportView, resolved_shared_name_view as borrowed_view, resolved_shared_name_views}
 use Rattle.symbols_exports.specs.ExportViews.{AreModulesOfExportsStored}
-use Rattle.symbols_queries.specs.AnswerViews.{shared_name_view}
+use Rattle.symbols_queries.specs.Queries.{shared_name_view}
 use Rattle.symbols_queries.proofs.Naming.{AreNamed, named_next}
 use Rattle.symbols_queries.proofs.Known.{mapped_first, mapped_rest}
 use Rattle.symbols_queries.proofs.shared_name_by_specifier.shared_names_by_specifier.Goals as goal

@@ -1,6 +1,6 @@
 use Rattle.symbols_exports.specs.SharedNameLists.{shared_name_view_of_resolved, AreExporterModulesStored}
 use Rattle.symbols_exports.specs.CollectedNames.{resolved_shared_name_views}
-use Rattle.symbols_queries.specs.AnswerViews.{shared_name_view}
+use Rattle.symbols_queries.specs.Queries.{shared_name_view}
 use Rattle.symbols_queries.proofs.Naming.{AreNamed}
 use Rattle.symbols_queries.proofs.shared_name_by_specifier.shared_names_by_specifier.Given as goal
 

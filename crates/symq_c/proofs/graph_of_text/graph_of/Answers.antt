@@ -9,4 +9,5 @@ returns-clause-accepted c =
 
 pub returns-clause-refused : goal.returns-clause-refused
 returns-clause-refused c =
-    refused_reported c.args.text.now c.in_ok-raw.raw c.keyed_graph.result c.map_err.result c.in_ok-raw.ensures.read c.keyed_graph.ensures.refused c.map_err.ensures.cases
+    refused_reported c.args.text.now c.in_ok-raw.raw c.keyed_graph.result c.map_err.result
+    c.in_ok-raw.ensures.read c.keyed_graph.ensures.refused c.map_err.ensures.cases

@@ -1,8 +1,7 @@
 use Rattle.std.proofs.Common.{◌∙◌}
 use Rattle.std.specs.Option.{option_and_then}
 use Rattle.symq_reader.specs.GraphText.{json_of_bytes}
-use Rattle.symq_core.specs.Queries.{query_of_json}
-use Rattle.symq_core.specs.AnswerData.{query_result_json}
+use Rattle.symq_core.specs.Queries.{query_of_json, query_result_json}
 use Rattle.symq_core.specs.AnswerTexts.{answer_text}
 use Rattle.symq_core.proofs.Texts.{text_after}
 use Rattle.symq_core.proofs.answer_line.answer.Goals as goal

@@ -6,8 +6,7 @@ use Rattle.symq_reader.specs.Lists.{has_no_object_and_whole_numbers}
 use Rattle.symq_reader.specs.JsonData.{value_data}
 use Rattle.symbols_root.specs.laws.Growing.{has_grown_refl}
 use Rattle.symbols_answers.specs.Questions.{QueryView}
-use Rattle.symq_core.specs.AnswerData.{query_result_json}
-use Rattle.symq_core.specs.Queries.{query_of_json}
+use Rattle.symq_core.specs.Queries.{query_result_json, query_of_json}
 use Rattle.symq_core.specs.inner.JsonWriting.{AppendsValueTokensIfOk}
 use Rattle.symq_core.proofs.Listed.{no_query}
 use Rattle.symq_core.proofs.answer_line.write_parsed_line_answer.Goals as goal

@@ -1,8 +1,7 @@
 use Rattle.std.proofs.Common.{◌≡◌, Option, None, sym, subst}
-use Rattle.symbols_answers.specs.Answers.{AnswerView}
-use Rattle.symbols_answers.specs.QueryAnswers.{query_answer}
+use Rattle.symbols_answers.specs.Answers.{AnswerView, query_answer}
 use Rattle.symbols_queries.specs.Queries.{query_view}
-use Rattle.symq_core.specs.AnswerData.{answer_or_fault_json}
+use Rattle.symq_core.specs.Queries.{answer_or_fault_json}
 use Rattle.symq_core.specs.inner.JsonWriting.{AppendsValueTokensIfOk}
 use Rattle.symq_core.proofs.QueryResults.{none_answered}
 use Rattle.symq_core.proofs.answer_line.write_query_answer.Goals as goal

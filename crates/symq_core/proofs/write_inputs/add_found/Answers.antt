@@ -1,7 +1,7 @@
 use Rattle.std.proofs.Common.{sym, subst}
 use Rattle.std.proofs.lemmas.Result.{on_ok_weaker}
 use Rattle.symbols_queries.specs.declared.inputs.Found.{Found}
-use Rattle.symbols_queries.specs.AnswerViews.{found_view}
+use Rattle.symbols_queries.specs.Queries.{found_view}
 use Rattle.symq_core.specs.inner.JsonWriting.{AppendsTokensIfOk, found_member_tokens}
 use Rattle.symq_core.proofs.Texts.{then}
 use Rattle.symq_core.proofs.write_inputs.add_found.Goals as goal

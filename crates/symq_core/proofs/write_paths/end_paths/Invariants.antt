@@ -1,5 +1,5 @@
 use Rattle.std.proofs.Common.{◌≡◌, ◌++◌, drop}
-use Rattle.symbols_queries.specs.AnswerViews.{path_forest_view}
+use Rattle.symbols_queries.specs.Queries.{path_forest_view}
 use Rattle.symq_core.specs.PathData.{path_forest_json_items}
 use Rattle.symq_core.specs.inner.JsonWriting.{remaining_item_tokens}
 use Rattle.symq_core.proofs.write_paths.end_paths.Given as goal

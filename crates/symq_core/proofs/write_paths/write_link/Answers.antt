@@ -1,6 +1,6 @@
 use Rattle.std.proofs.Common.{◌∷◌, refl, sym, ap, subst, ◌∙◌, arith}
 use Rattle.std.proofs.lemmas.List.{nil_from_length}
-use Rattle.symbols_queries.specs.AnswerViews.{path_tree_view}
+use Rattle.symbols_queries.specs.Queries.{path_tree_view}
 use Rattle.symq_core.specs.PathData.{path_tree_json}
 use Rattle.symq_core.specs.inner.JsonWriting.{AppendsTokens, tokens_of}
 use Rattle.symq_core.proofs.Paths.{unresolved_is, writing_begun, writing_next, writing_opened, writing_last, link_smaller}

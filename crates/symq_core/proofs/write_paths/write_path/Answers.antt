@@ -1,6 +1,6 @@
 use Rattle.std.proofs.Common.{sym, ap, subst, ◌∙◌}
 use Rattle.symbols_paths.specs.PathTrees.{PathTree}
-use Rattle.symbols_queries.specs.AnswerViews.{path_tree_view}
+use Rattle.symbols_queries.specs.Queries.{path_tree_view}
 use Rattle.symq_core.specs.PathData.{path_tree_json}
 use Rattle.symq_core.specs.inner.JsonWriting.{AppendsValueTokensIfOk}
 use Rattle.symq_core.proofs.Paths.{definition_is, path_is}

@@ -3,13 +3,15 @@ use Rattle.std.specs.Prelude.{slice_set, slice_index_or}
 use Rattle.symbols_paths.proofs.DropOrder.{left, dropped, opened, spliced, is_none, is_some}
 use Rattle.symbols_paths.proofs.DropPaths.{weight_of_path, weight_of_step}
 use Rattle.symbols_paths.proofs.definition_path.DefinitionPathNode.drop.Goals as goal
-use Rattle.symbols_paths.proofs.definition_path.DefinitionPathNode.drop.Goals.{in-Some-into_link, then-is_empty, else-is_empty+then-is_empty-2, in_default-into_link}
+use Rattle.symbols_paths.proofs.definition_path.DefinitionPathNode.drop.Goals.{in-Some-into_link, then-is_empty, else-is_empty+then-is_empty-2}
+use Rattle.symbols_paths.proofs.definition_path.DefinitionPathNode.drop.Goals.{in_default-into_link}
 
 pub loop-link-smaller-else-is_empty-2 : goal.loop-link-smaller-else-is_empty-2
 loop-link-smaller-else-is_empty-2 c =
     let l = c.in-Some-into_link.link in
     let work = c.loop-link.work in
-    subst (λ spliced_in. left weight_of_path (slice_set l.next.items 0 spliced_in ++ c.replace-self.result ∷ []) < left weight_of_path (work.items ++ c.loop-link.self ∷ []))
+    subst (λ spliced_in. left weight_of_path (slice_set l.next.items 0 spliced_in ++ c.replace-self.result ∷ [])
+    < left weight_of_path (work.items ++ c.loop-link.self ∷ []))
     (sym c.replace-self.ensures.after)
     (spliced weight_of_path work.items l.next.items c.replace-self.result c.loop-link.self _
     (is_some work (sym c.if-is_empty-2.false ∙ c.is_empty-else-is_empty.ensures))

@@ -1,9 +1,8 @@
 use Rattle.std.proofs.Common.{◌∙◌}
 use Rattle.std.proofs.lemmas.Result.{IfOk-weaker, IfErr-weaker}
 use Rattle.symbols_root.specs.laws.Growing.{has_grown_trans}
-use Rattle.symbols_queries.specs.declared.answer.Answer.{Answer}
-use Rattle.symbols_queries.specs.Queries.{query_view}
-use Rattle.symbols_queries.specs.AnswerViews.{answer_view}
+use Rattle.symbols_queries.specs.declared.query.Answer.{Answer}
+use Rattle.symbols_queries.specs.Queries.{query_view, answer_view}
 use Rattle.symbols_queries.proofs.QueriesAnswered.{form_is}
 use Rattle.symbols_queries.proofs.Running.{queried_first, none_given, query_given, query_refused, module_refused}
 use Rattle.symbols_queries.proofs.Running.{stores_queried, stores_for_query}

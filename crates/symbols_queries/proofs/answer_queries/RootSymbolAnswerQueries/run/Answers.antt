@@ -1,10 +1,8 @@
 use Rattle.std.proofs.Common.{◌∙◌, inl, arith}
 use Rattle.symbols_root.specs.laws.Growing.{has_grown_trans}
-use Rattle.symbols_queries.specs.Queries.{query_view}
-use Rattle.symbols_queries.specs.AnswerViews.{answer_view}
-use Rattle.symbols_answers.specs.Meanings.{IsAnswerToQuery}
-use Rattle.symbols_answers.specs.Stored.{AreQueryModulesStored}
-use Rattle.symbols_queries.specs.declared.answer.Answer.{Answer}
+use Rattle.symbols_queries.specs.Queries.{query_view, answer_view}
+use Rattle.symbols_answers.specs.Answers.{IsAnswerToQuery, AreQueryModulesStored}
+use Rattle.symbols_queries.specs.declared.query.Answer.{Answer}
 use Rattle.symbols_queries.specs.declared.query.Query.{Query}
 use Rattle.symbols_queries.proofs.Running.{IsNamed, zip_weaker, answered_first, answered_on, last_named, same_last, run_refused, run_out_of_memory}
 use Rattle.symbols_queries.proofs.Running.{stores_up_to, stores_last}

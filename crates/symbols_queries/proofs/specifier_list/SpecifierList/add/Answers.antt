@@ -1,6 +1,6 @@
 use Rattle.std.proofs.Common.{◌≡◌, false, ap, ◌∙◌, arith}
 use Rattle.std.specs.Str.{bytes_eq}
-use Rattle.symbols_answers.specs.InputLists.{append_specifier_if_absent}
+use Rattle.symbols_answers.specs.Questions.{append_specifier_if_absent}
 use Rattle.symbols_queries.proofs.SpecifierKeys.{added_other}
 use Rattle.symbols_queries.proofs.specifier_list.SpecifierList.add.Goals as goal
 

@@ -1,7 +1,7 @@
 use Rattle.std.proofs.Common.{◌≡◌, [], ◌∷◌, List, length, refl, sym, ap, ◌∙◌, subst, arith}
 use Rattle.std.specs.Global.{Vec}
 use Rattle.symbols_ast.specs.NodeRefs.{child_list_in_field}
-use Rattle.symbols_ast.specs.ChildFields.{body_children_of}
+use Rattle.symbols_ast.specs.Fields.{body_children_of}
 use Rattle.symbols_table.specs.declared.builder.table.ModuleBuilder.{ModuleBuilder}
 use Rattle.symbols_table.specs.declared.builder.table.Setting.{Setting}
 use Rattle.symbols_table.specs.declared.decl.symbol.Symbol.{Symbol}

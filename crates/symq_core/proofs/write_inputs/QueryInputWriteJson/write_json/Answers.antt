@@ -1,6 +1,6 @@
 use Rattle.std.proofs.Common.{subst}
 use Rattle.std.proofs.lemmas.Result.{on_ok_weaker}
-use Rattle.symbols_queries.specs.AnswerViews.{found_view}
+use Rattle.symbols_queries.specs.Queries.{found_view}
 use Rattle.symq_core.specs.inner.JsonWriting.{AppendsTokens}
 use Rattle.symq_core.proofs.Texts.{written, then, found_before}
 use Rattle.symq_core.proofs.write_inputs.QueryInputWriteJson.write_json.Goals as goal

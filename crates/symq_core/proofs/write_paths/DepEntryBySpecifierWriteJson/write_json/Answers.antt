@@ -1,6 +1,6 @@
 use Rattle.std.proofs.Common.{sym, subst}
 use Rattle.symbols_queries.specs.declared.paths_by_specifier.DepEntryBySpecifier.{DepEntryBySpecifier}
-use Rattle.symbols_queries.specs.AnswerViews.{dep_entry_view}
+use Rattle.symbols_queries.specs.Queries.{dep_entry_view}
 use Rattle.symq_core.specs.PathData.{dep_entry_json}
 use Rattle.symq_core.specs.inner.JsonWriting.{AppendsValueTokensIfOk}
 use Rattle.symq_core.proofs.write_paths.DepEntryBySpecifierWriteJson.write_json.Goals as goal

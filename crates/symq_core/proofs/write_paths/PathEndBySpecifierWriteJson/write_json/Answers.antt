@@ -1,6 +1,6 @@
 use Rattle.std.proofs.Common.{sym, subst}
 use Rattle.symbols_queries.specs.declared.paths_by_specifier.PathEndBySpecifier.{PathEndBySpecifier}
-use Rattle.symbols_queries.specs.AnswerViews.{path_end_view}
+use Rattle.symbols_queries.specs.Queries.{path_end_view}
 use Rattle.symq_core.specs.PathData.{leaf_json}
 use Rattle.symq_core.specs.inner.JsonWriting.{AppendsValueTokensIfOk}
 use Rattle.symq_core.proofs.write_paths.PathEndBySpecifierWriteJson.write_json.Goals as goal

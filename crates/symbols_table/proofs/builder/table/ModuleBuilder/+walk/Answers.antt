@@ -3,7 +3,7 @@ use Rattle.std.proofs.lemmas.List.{take_all}
 use Rattle.symbols_ast.specs.declared.tree.kinds.Kind.{Kind}
 use Rattle.symbols_ast.specs.declared.tree.kinds.Decl.TheVariants as Decl
 use Rattle.symbols_ast.specs.NodeRefs.{node_view, child_in_field}
-use Rattle.symbols_ast.specs.ChildFields.{id_child_of, body_child_of}
+use Rattle.symbols_ast.specs.Fields.{id_child_of, body_child_of}
 use Rattle.symbols_ast.specs.Ids.{id_view}
 use Rattle.symbols_ast.specs.WellFormed.{IsWellFormedTree}
 use Rattle.symbols_table.specs.declared.builder.table.Setting.{Setting}

@@ -22,4 +22,5 @@ returns-clause-inner c =
 
 pub returns-clause-table : goal.returns-clause-table
 returns-clause-table c = λ changes is.
-    c.copied.ensures ∙ (c.get.ensures.value ∙ (lookup-identifier_bindings_view (id_view c.args.id.now) c.args.self.now.ids.entries ∙ is.ids (id_view c.args.id.now)))
+    c.copied.ensures
+    ∙ (c.get.ensures.value ∙ (lookup-identifier_bindings_view (id_view c.args.id.now) c.args.self.now.ids.entries ∙ is.ids (id_view c.args.id.now)))

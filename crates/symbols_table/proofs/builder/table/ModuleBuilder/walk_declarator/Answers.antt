@@ -1,5 +1,5 @@
 use Rattle.std.proofs.Common.{Some, sym}
-use Rattle.symbols_ast.specs.ChildFields.{name_child_of}
+use Rattle.symbols_ast.specs.Fields.{name_child_of}
 use Rattle.symbols_ast.specs.NodeRefs.{node_view, node_in, child_in_field}
 use Rattle.symbols_table.proofs.Walks.{on_none, on_some}
 use Rattle.symbols_table.proofs.builder.table.ModuleBuilder.walk_declarator.Goals as goal

@@ -2,7 +2,7 @@ use Rattle.std.proofs.Common.{◌≡◌, Some, None, length, refl, sym, ◌∙�
 use Rattle.std.specs.Prelude.{string_bytes}
 use Rattle.std.specs.Option.{option_map, option_copied, option_and_then}
 use Rattle.symbols_ast.specs.NodeRefs.{node_view, kind_of, child_in_field}
-use Rattle.symbols_ast.specs.ChildFields.{orig_child_of}
+use Rattle.symbols_ast.specs.Fields.{orig_child_of}
 use Rattle.symbols_table.specs.ModuleEvents.{orig_specifier_name, orig_specifier_decl_kind, export_named_specifier_events}
 use Rattle.symbols_table.proofs.Walks.{on_none}
 use Rattle.symbols_table.proofs.ModuleWalks.{no_events, on_nothing, on_thing, some_kind}

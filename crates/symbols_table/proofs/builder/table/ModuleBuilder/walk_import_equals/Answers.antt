@@ -3,7 +3,7 @@ use Rattle.std.specs.Prelude.{string_bytes}
 use Rattle.std.specs.Option.{option_map}
 use Rattle.symbols_ast.specs.Ids.{id_view}
 use Rattle.symbols_ast.specs.NodeRefs.{node_view}
-use Rattle.symbols_ast.specs.ChildFields.{id_child_of}
+use Rattle.symbols_ast.specs.Fields.{id_child_of}
 use Rattle.symbols_table.specs.declared.builder.table.Setting.{Setting}
 use Rattle.symbols_table.specs.DeclViews.{decl_view, decl_kind_view}
 use Rattle.symbols_table.specs.DeclarationEvents.{export_event_if}

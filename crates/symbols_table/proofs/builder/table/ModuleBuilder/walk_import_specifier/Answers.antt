@@ -2,7 +2,7 @@ use Rattle.std.proofs.Common.{◌≡◌, Some, None, ◌∷◌, [], length, refl
 use Rattle.std.specs.Option.{option_and_then}
 use Rattle.symbols_ast.specs.Ids.{id_view}
 use Rattle.symbols_ast.specs.NodeRefs.{node_view, kind_of, node_in}
-use Rattle.symbols_ast.specs.ChildFields.{local_child_of}
+use Rattle.symbols_ast.specs.Fields.{local_child_of}
 use Rattle.symbols_table.specs.DeclViews.{decl_view, file_dep_name_view}
 use Rattle.symbols_table.specs.Events.{declare, declare_effect, effect_of_event, changes_of_effects, symbol_of_event_at}
 use Rattle.symbols_table.specs.EventsByHolderAndStart.{id_of_ident_child}

@@ -2,7 +2,7 @@ use Rattle.std.proofs.Common.{◌≡◌, length, Some, sym, ap, ◌∙◌, rules
 use Rattle.symbols_ast.specs.declared.tree.kinds.Kind.{Kind}
 use Rattle.symbols_ast.specs.declared.tree.kinds.Item.TheVariants as Item
 use Rattle.symbols_ast.specs.NodeRefs.{node_view, kind_of, child_in_field}
-use Rattle.symbols_ast.specs.ChildFields.{decl_child_of}
+use Rattle.symbols_ast.specs.Fields.{decl_child_of}
 use Rattle.symbols_table.specs.TreeEvents.{export_decl_events, non_namespace_item_events}
 use Rattle.symbols_table.proofs.Walks.{on_some, on_none}
 use Rattle.symbols_table.proofs.builder.table.ModuleBuilder.walk_other_item.Goals as goal

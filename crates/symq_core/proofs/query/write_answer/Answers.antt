@@ -1,9 +1,9 @@
 use Rattle.std.proofs.Common.{sym, subst}
-use Rattle.symbols_queries.specs.declared.answer.Answer.{Answer}
-use Rattle.symbols_queries.specs.AnswerViews.{answer_view}
-use Rattle.symq_core.specs.AnswerData.{answer_json}
+use Rattle.symbols_queries.specs.declared.query.Answer.{Answer}
+use Rattle.symbols_queries.specs.Queries.{answer_view}
+use Rattle.symq_core.specs.Queries.{answer_json}
 use Rattle.symq_core.specs.inner.JsonWriting.{AppendsValueTokensIfOk}
-use Rattle.symq_core.proofs.answer_line.write_answer.Goals as goal
+use Rattle.symq_core.proofs.query.write_answer.Goals as goal
 
 pub returns-in-Definitions : goal.returns-in-Definitions
 returns-in-Definitions c =
