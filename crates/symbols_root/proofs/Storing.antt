@@ -20,7 +20,7 @@ use Rattle.symbols_table.specs.Modules.{symbol_table_of}
 use Rattle.symbols_root.specs.Specifiers.{module_with_specifier, contains_specifier}
 use Rattle.symbols_root.specs.Roots.{RootView, root_with_stored_module, HasRoomForModule, IsNeededAndNotStored, IsStoringFault, IsTableOfModule}
 use Rattle.symbols_root.specs.StoredModules.{StoredModule, stored_specifiers}
-use Rattle.symbols_root.specs.inner.StoredModules.{AreTablesOfModules, ResolvesToItself}
+use Rattle.symbols_root.specs.inner.StoredModules.{AreTablesOfModules, ResolvesToStored}
 use Rattle.symbols_root.specs.laws.Specifiers.{equal_if_bytes_eq}
 
 -- ---- the map by specifiers
@@ -92,9 +92,14 @@ get_before (z ∷ xs) ys (suc i) x at = get_before xs ys i x at
 
 -- the module that was requested last keeps its index
 pub last_retained : (graph : GraphView) (stored : List (List ℕ)) (s : List ℕ) (last : Option (Bor (List ℕ) × ModuleId))
-    → IfSome last (λ l. ResolvesToItself graph stored l.1 l.0.now) → IfSome last (λ l. ResolvesToItself graph (stored ++ s ∷ []) l.1 l.0.now)
+    → IfSome last (λ l. ResolvesToStored graph stored l.1 l.0.now) → IfSome last (λ l. ResolvesToStored graph (stored ++ s ∷ []) l.1 l.0.now)
 last_retained graph stored s None is = tt
-last_retained graph stored s (Some l) is = record { at = get_before stored (s ∷ []) l.1.0 l.0.now is.at; occurs = is.occurs; under = is.under }
+last_retained graph stored s (Some l) is = record {
+  graph_module = is.graph_module;
+  resolves = is.resolves;
+  at = get_before stored (s ∷ []) l.1.0 is.graph_module.specifier is.at;
+  under = is.under;
+}
 
 -- one more module with its complete table
 pub whole_push : (graph : GraphView) (limit : ℕ) (entries : List StoredModule) (e : StoredModule) → AreTablesOfModules graph limit entries

@@ -21,11 +21,11 @@ ghost use Rattle.symbols_root.specs.Roots.{widest_limits};
 ghost use Rattle.symbols_root.specs.Growing.{HasGrown};
 ghost use Rattle.symbols_root.specs.Calls.{IsStored, IsOnlyOutOfMemoryByWidestLimits, HasGrownAndFailsOnlyFor};
 ghost use Rattle.symbols_root.specs.Calls.{IsUnstoredOrHasTypesDependency};
-ghost use Rattle.symbols_root.specs.inner.StoredModules.{ResolvesToItself};
+ghost use Rattle.symbols_root.specs.inner.StoredModules.{ResolvesToStored};
 
 use crate::limits::Limits;
 use crate::rules::Rules;
-use crate::types_chain::get_prefer_types;
+use crate::types_chain::{get_prefer_types, specifier_in_graph};
 use indexmap::IndexMap;
 use std::alloc::Global;
 use std::hash::RandomState;
@@ -46,8 +46,8 @@ pub struct RootSymbol<'a> {
     rules: Rules,
     limits: Limits,
     modules: IndexMap<&'a str, ModuleInfo<'a>, RandomState>,
-    /// The module that was last requested by its own specifier, if that resolves to it. A request
-    /// for the same specifier needs no look-up.
+    /// The module that a specifier, as the graph has it, was last resolved to. A request for the
+    /// same specifier needs no look-up.
     last: Option<(&'a str, ModuleId)>,
 }
 
@@ -57,7 +57,7 @@ impl<'a> Model for RootSymbol<'a> {
     ghost use Rattle.std.specs.Str.{bytes_eq};
     ghost use Rattle.symbols_root.specs.Roots.{RootView};
     ghost use Rattle.symbols_root.specs.StoredModules.{stored_specifiers};
-    ghost use Rattle.symbols_root.specs.inner.StoredModules.{AreTablesOfModules, ResolvesToItself};
+    ghost use Rattle.symbols_root.specs.inner.StoredModules.{AreTablesOfModules, ResolvesToStored};
 
     ghost Value = { RootView };
 
@@ -72,7 +72,7 @@ impl<'a> Model for RootSymbol<'a> {
         × (length r.modules.entries ≤ r.limits.modules)
         × IsDistinct bytes_eq (stored_specifiers r.modules.entries)
         × IfSome r.last (λ last.
-        ResolvesToItself r.graph.now (stored_specifiers r.modules.entries) last.1 last.0.now) };
+        ResolvesToStored r.graph.now (stored_specifiers r.modules.entries) last.1 last.0.now) };
 }
 
 impl<'a> RootSymbol<'a> {
@@ -243,20 +243,20 @@ impl<'a> RootSymbol<'a> {
         Ok(module_id)
     }
 
-    // Returns the module that was last requested by its own specifier, if it is this specifier.
+    // Returns the module that a specifier was last resolved to, if it is this specifier.
     fn last_requested(&self, specifier: &str) -> Option<ModuleId>
         ensures { IfSome result
-            (λ id. ResolvesToItself self.now.graph self.now.stored id specifier.now) }
+            (λ id. ResolvesToStored self.now.graph self.now.stored id specifier.now) }
     {
         match self.last {
-            Some((stored_specifier, module_id)) if stored_specifier == specifier => Some(module_id),
+            Some((requested, module_id)) if requested == specifier => Some(module_id),
             _ => None,
         }
     }
 
-    // Remembers which module was last requested by its own specifier.
+    // Remembers which module a specifier was last resolved to.
     fn set_last_requested(&mut self, specifier: &'a str, module_id: ModuleId)
-        requires { ResolvesToItself self.old.graph self.old.stored module_id specifier.now }
+        requires { ResolvesToStored self.old.graph self.old.stored module_id specifier.now }
         ensures { self.new ≡ self.old }
     {
         self.last = Some((specifier, module_id));
@@ -307,9 +307,8 @@ impl<'a> RootSymbol<'a> {
             return Ok(None);
         };
         let module_id = self.store(graph_module)?;
-        let stored_specifier = graph_module.specifier();
-        if stored_specifier == specifier {
-            self.set_last_requested(stored_specifier, module_id);
+        if let Some(requested) = specifier_in_graph(self.graph, graph_module, specifier) {
+            self.set_last_requested(requested, module_id);
         }
         Ok(Some(module_id))
     }

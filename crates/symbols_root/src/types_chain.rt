@@ -82,3 +82,22 @@ pub(crate) fn get_prefer_types<'a>(
     }
     Ok(resolved_to)
 }
+
+/// Returns a specifier as the graph has it: if it is that of the module that it resolves to, or of
+/// the first module of its types chain. Otherwise `None`.
+pub(crate) fn specifier_in_graph<'a>(
+    graph: &'a ModuleGraph,
+    resolved_to: &'a GraphModule,
+    specifier: &str,
+) -> Option<&'a str>
+    ensures { IfSome result (λ same. same.now ≡ specifier.now) }
+{
+    let own = resolved_to.specifier();
+    if own == specifier {
+        return Some(own);
+    }
+    match graph.get(specifier) {
+        Some(first) if first.specifier() == specifier => Some(first.specifier()),
+        _ => None,
+    }
+}

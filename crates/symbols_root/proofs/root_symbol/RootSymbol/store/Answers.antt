@@ -15,7 +15,7 @@ use Rattle.symbols_root.specs.Specifiers.{module_with_specifier, contains_specif
 use Rattle.symbols_root.specs.declared.limits.Limits.{Limits}
 use Rattle.symbols_root.specs.Roots.{RootView, widest_limits, root_with_stored_module, IsNeededAndNotStored, IsStoringFault}
 use Rattle.symbols_root.specs.StoredModules.{StoredModule, stored_specifiers}
-use Rattle.symbols_root.specs.inner.StoredModules.{ResolvesToItself}
+use Rattle.symbols_root.specs.inner.StoredModules.{ResolvesToStored}
 use Rattle.symbols_root.specs.Growing.{HasGrown}
 use Rattle.symbols_root.specs.laws.Growing.{has_grown_refl, has_grown_by_stored_module}
 use Rattle.symbols_root.specs.laws.Specifiers.{on_err_if_true, bytes_eq_is_equivalence, contains_specifier_at_index, equal_if_bytes_eq}
@@ -133,7 +133,7 @@ invariant_of-self-2 c =
     let once : IsDistinct bytes_eq (stored_specifiers (entries ++ (s, info) ∷ [])) =
     subst (IsDistinct bytes_eq) (sym (stored_push entries (s, info)))
     (IsDistinct-push bytes_eq_is_equivalence (stored_specifiers entries) s.now c.self.invariant.2 new) in
-    let last = subst (λ (xs : List (List ℕ)). IfSome c.self.inside.last (λ l. ResolvesToItself c.self.inside.graph.now xs l.1 l.0.now))
+    let last = subst (λ (xs : List (List ℕ)). IfSome c.self.inside.last (λ l. ResolvesToStored c.self.inside.graph.now xs l.1 l.0.now))
     (sym (stored_push entries (s, info))) (last_retained c.self.inside.graph.now (stored_specifiers entries) s.now c.self.inside.last c.self.invariant.3) in
     rw pushed (all, within, once, last)
 
