@@ -92,9 +92,9 @@ pub(crate) fn specifier_in_graph<'a>(
 ) -> Option<&'a str>
     ensures { IfSome result (λ same. same.now ≡ specifier.now) }
 {
-    let own = resolved_to.specifier();
-    if own == specifier {
-        return Some(own);
+    let last = resolved_to.specifier();
+    if last == specifier {
+        return Some(last);
     }
     match graph.get(specifier) {
         Some(first) if first.specifier() == specifier => Some(first.specifier()),
