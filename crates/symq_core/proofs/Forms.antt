@@ -3,25 +3,19 @@ use Rattle.std.proofs.Common.{◌≡◌, ◌<◌, List, [], ◌∷◌, length, N
 use Rattle.json.specs.declared.value.Value.{Value}
 use Rattle.symq_reader.specs.JsonData.{items_data}
 use Rattle.symq_core.specs.ReferenceForms.{read_id_reference, read_qualified_reference, read_import_reference, keyword_and_items}
-use Rattle.symq_core.specs.Queries.{two_strings_and_items, second_after_inputs, read_module_question, read_exports_question, read_public_names_question}
-use Rattle.symq_core.specs.Queries.{read_symbol_of_ident_question, read_single_symbol_id, read_deps_question, read_resolve_question}
+use Rattle.symq_core.specs.Queries.{two_strings_and_items, second_after_inputs, read_symbol_of_ident_question, read_resolve_question}
+use Rattle.symq_core.specs.inner.TailItems.{tail_items}
 
 pub two_short : {A : Type 0} (values : List (Value A)) → length values < 2 → two_strings_and_items (items_data values) ≡ None
 two_short [] h = refl
 two_short (a ∷ []) h = refl
 two_short (a ∷ b ∷ values) h = absurd (omega arith)
 
-pub module_long : {A : Type 0} (values : List (Value A)) → 0 < length values → read_module_question (items_data values) ≡ None
-module_long [] h = absurd (omega arith)
-module_long (a ∷ values) h = refl
-
-pub exports_long : {A : Type 0} (values : List (Value A)) → 0 < length values → read_exports_question (items_data values) ≡ None
-exports_long [] h = absurd (omega arith)
-exports_long (a ∷ values) h = refl
-
-pub names_long : {A : Type 0} (values : List (Value A)) → 0 < length values → read_public_names_question (items_data values) ≡ None
-names_long [] h = absurd (omega arith)
-names_long (a ∷ values) h = refl
+pub tail_long : {A : Type 0} (values : List (Value A)) → 2 < length values → tail_items (items_data values) ≡ None
+tail_long [] h = absurd (omega arith)
+tail_long (a ∷ []) h = absurd (omega arith)
+tail_long (a ∷ b ∷ []) h = absurd (omega arith)
+tail_long (a ∷ b ∷ c ∷ values) h = refl
 
 pub symbol_short : {A : Type 0} (values : List (Value A)) → length values < 2 → read_symbol_of_ident_question (items_data values) ≡ None
 symbol_short [] h = refl
@@ -33,26 +27,6 @@ symbol_long [] h = refl
 symbol_long (a ∷ []) h = refl
 symbol_long (a ∷ b ∷ []) h = absurd (omega arith)
 symbol_long (a ∷ b ∷ c ∷ values) h = refl
-
-pub symbols_short : {A : Type 0} (values : List (Value A)) → length values < 1 → read_single_symbol_id (items_data values) ≡ None
-symbols_short [] h = refl
-symbols_short (a ∷ values) h = absurd (omega arith)
-
-pub symbols_long : {A : Type 0} (values : List (Value A)) → 1 < length values → read_single_symbol_id (items_data values) ≡ None
-symbols_long [] h = refl
-symbols_long (a ∷ []) h = absurd (omega arith)
-symbols_long (a ∷ b ∷ values) h = refl
-
-pub deps_short : {A : Type 0} (values : List (Value A)) → length values < 2 → read_deps_question (items_data values) ≡ None
-deps_short [] h = refl
-deps_short (a ∷ []) h = refl
-deps_short (a ∷ b ∷ values) h = absurd (omega arith)
-
-pub deps_long : {A : Type 0} (values : List (Value A)) → 2 < length values → read_deps_question (items_data values) ≡ None
-deps_long [] h = refl
-deps_long (a ∷ []) h = absurd (omega arith)
-deps_long (a ∷ b ∷ []) h = absurd (omega arith)
-deps_long (a ∷ b ∷ c ∷ values) h = refl
 
 pub id_short : {A : Type 0} (values : List (Value A)) → length values < 2 → read_id_reference (items_data values) ≡ None
 id_short [] h = refl

@@ -43,7 +43,7 @@ last : (a : Bool) → (a && true) ≡ false → a ≡ false
 last true e = e
 last false e = refl
 
-and_none : {A B : Type 0} (o : Option A) (f : A → Option B) → ((x : A) → f x ≡ None) → option_and_then f o ≡ None
+pub and_none : {A B : Type 0} (o : Option A) (f : A → Option B) → ((x : A) → f x ≡ None) → option_and_then f o ≡ None
 and_none None f none = refl
 and_none (Some x) f none = none x
 
@@ -99,17 +99,19 @@ deps_has (item symbol (item mode (item d ds))) e = refl
 
 -- ---- look-up by keyword
 
-abbrev AllNone : {A : Type 0} → List (List ℕ × (Items → Option A)) → Items → Type 0
-AllNone [] ds = Unit {0}
-AllNone (f ∷ fs) ds = (f.1 ds ≡ None) × AllNone fs ds
+-- the form of the keyword, if there is one, has nothing for these items
+abbrev FoundNone : {A : Type 0} → List ℕ → List (List ℕ × (Items → Option A)) → Items → Type 0
+FoundNone keyword [] ds = Unit {0}
+FoundNone keyword (f ∷ fs) ds = (bytes_eq keyword f.0 ≡ true → f.1 ds ≡ None) × FoundNone keyword fs ds
 
-found_at : {A : Type 0} (b : Bool) (f : List ℕ × (Items → Option A)) (rest : Option (List ℕ × (Items → Option A))) (ds : Items) → f.1 ds ≡ None
+found_at : {A : Type 0} (b : Bool) (f : List ℕ × (Items → Option A)) (rest : Option (List ℕ × (Items → Option A))) (ds : Items)
+    → (b ≡ true → f.1 ds ≡ None)
     → option_and_then (λ form. form.1 ds) rest ≡ None
     → option_and_then (λ form. form.1 ds) (if b then Some f else rest) ≡ None
-found_at true f rest ds none other_items = none
+found_at true f rest ds none other_items = none refl
 found_at false f rest ds none other_items = other_items
 
-found_none : {A : Type 0} (keyword : List ℕ) (fs : List (List ℕ × (Items → Option A))) (ds : Items) → AllNone fs ds
+pub found_none : {A : Type 0} (keyword : List ℕ) (fs : List (List ℕ × (Items → Option A))) (ds : Items) → FoundNone keyword fs ds
     → option_and_then (λ form. form.1 ds) (find (λ form. bytes_eq keyword form.0) fs) ≡ None
 found_none keyword [] ds none = refl
 found_none keyword (f ∷ fs) ds none = found_at (bytes_eq keyword f.0) f (find (λ form. bytes_eq keyword form.0) fs) ds none.0 (found_none keyword fs ds none.1)
@@ -177,7 +179,8 @@ import_form_has (item text (item parts no_items)) e = text_parts text parts (eit
 import_form_has (item text (item parts (item d ds))) e = refl
 
 reference_none : (keyword : List ℕ) (ds : Items) → items_have_no_object_and_whole_numbers ds ≡ false → reference_by_keyword keyword ds ≡ None
-reference_none keyword ds e = found_none keyword reference_readers ds (id_form_has ds e, (qualified_form_has ds e, (import_form_has ds e, tt)))
+reference_none keyword ds e = found_none keyword reference_readers ds
+    (λ _. id_form_has ds e, (λ _. qualified_form_has ds e, (λ _. import_form_has ds e, tt)))
 
 after_keyword : (o : Option (List ℕ)) (rest : Items) → (o ≡ None) ⊎ ((w : List ℕ) → reference_by_keyword w rest ≡ None)
     → option_and_then (λ (parts : List ℕ × Items). reference_by_keyword parts.0 parts.1) (option_map (λ w. (w, rest)) o) ≡ None
@@ -212,10 +215,19 @@ named_none : (keyword : List ℕ) (ds : Items) → items_have_no_object_and_whol
 named_none keyword ds e =
     let one = one_has ds e in
     found_none keyword question_readers ds (
-      module_has ds e,
+      λ _. module_has ds e,
       (
-        exports_has ds e,
-        (names_has ds e, (symbol_has ds e, (rw one refl, (deps_has ds e, (rw one refl, (rw one refl, (rw one refl, (resolve_has ds e, tt)))))))),
+        λ _. exports_has ds e,
+        (
+          λ _. names_has ds e,
+          (
+            λ _. symbol_has ds e,
+            (
+              λ _. rw one refl,
+              (λ _. deps_has ds e, (λ _. rw one refl, (λ _. rw one refl, (λ _. rw one refl, (λ _. resolve_has ds e, tt))))),
+            ),
+          ),
+        ),
       ),
     )
 

@@ -2,19 +2,19 @@
 //! its answer.
 
 ghost use Rattle.std.specs.Prelude.{◌≡◌, option_map, string_bytes, IfOk};
+ghost use Rattle.std.specs.Option.{option_and_then};
 ghost use Rattle.serde_json.specs.Data.{unsigned, number, string, no_items, item};
 ghost use Rattle.symbols_answers.specs.Answers.{answer_symbol, answer_name};
 ghost use Rattle.symbols_answers.specs.Questions.{inputs_query};
 ghost use Rattle.symbols_queries.specs.Queries.{query_with_question, query_view, answer_view};
 ghost use Rattle.symq_reader.specs.JsonData.{value_data, items_data};
+ghost use Rattle.symq_reader.specs.QueryLists.{items_after_two_strings};
 ghost use Rattle.symq_core.specs.Queries.{keyword_specifier_and_items, query_by_keyword, value_after_inputs};
-ghost use Rattle.symq_core.specs.Queries.{inputs_query_of_data, read_module_question, read_exports_question};
-ghost use Rattle.symq_core.specs.Queries.{read_public_names_question, read_symbol_of_ident_question};
-ghost use Rattle.symq_core.specs.Queries.{read_single_symbol_id, read_qualified_name_question, read_paths_question};
-ghost use Rattle.symq_core.specs.Queries.{read_definitions_question, read_leaves_question, deps_mode_by_keyword};
-ghost use Rattle.symq_core.specs.Queries.{read_deps_question, read_resolve_question, question_by_keyword};
+ghost use Rattle.symq_core.specs.Queries.{inputs_query_of_data, read_symbol_of_ident_question};
+ghost use Rattle.symq_core.specs.Queries.{read_resolve_question, deps_mode_by_keyword, question_by_keyword};
 ghost use Rattle.symq_core.specs.Queries.{answer_json};
 ghost use Rattle.symq_core.specs.inner.JsonWriting.{AppendsValueTokensIfOk};
+ghost use Rattle.symq_core.specs.inner.TailItems.{tail_items};
 
 use crate::references::{read_id, read_reference};
 use crate::write_exports::write_exports;
@@ -26,7 +26,7 @@ use symbols_graph::ids::SymbolId;
 use symbols_graph::tree::Id;
 use symbols_nodes::deps::ResolveDepsMode;
 use symbols_queries::{Answer, Query};
-use symq_reader::{as_list, as_text, as_u32};
+use symq_reader::{ListTail, as_list, as_text, as_u32};
 
 /// Returns the keyword, the specifier and the items after them; `None` if the value isn't such a
 /// list.
@@ -39,45 +39,6 @@ pub(crate) fn keyword_specifier_and_items<'v, 'a>(
 {
     match as_list(value)? {
         [keyword, specifier, rest @ ..] => Some((as_text(keyword)?, as_text(specifier)?, rest)),
-        _ => None,
-    }
-}
-
-/// Returns the query `module`; `None` if there are items after the specifier.
-#[tactic(auto, using(crate::proofs::Forms::module_long))]
-fn module_query<'r>(specifier: &'r str, items: &[Value<'_>]) -> Option<Query<'r>>
-    ensures { option_map query_view result
-        ≡ option_map (query_with_question specifier.now)
-        (read_module_question (items_data items.now)) }
-{
-    match items {
-        [] => Some(Query::Module(specifier)),
-        _ => None,
-    }
-}
-
-/// Returns the query `exports`; `None` if there are items after the specifier.
-#[tactic(auto, using(crate::proofs::Forms::exports_long))]
-fn exports_query<'r>(specifier: &'r str, items: &[Value<'_>]) -> Option<Query<'r>>
-    ensures { option_map query_view result
-        ≡ option_map (query_with_question specifier.now)
-        (read_exports_question (items_data items.now)) }
-{
-    match items {
-        [] => Some(Query::Exports(specifier)),
-        _ => None,
-    }
-}
-
-/// Returns the query `names`; `None` if there are items after the specifier.
-#[tactic(auto, using(crate::proofs::Forms::names_long))]
-fn names_query<'r>(specifier: &'r str, items: &[Value<'_>]) -> Option<Query<'r>>
-    ensures { option_map query_view result
-        ≡ option_map (query_with_question specifier.now)
-        (read_public_names_question (items_data items.now)) }
-{
-    match items {
-        [] => Some(Query::Names(specifier)),
         _ => None,
     }
 }
@@ -100,56 +61,6 @@ fn symbol_query<'r>(
         Some(id) => Ok(Some(Query::Symbol(specifier, id))),
         None => Ok(None),
     }
-}
-
-/// Returns the symbol if its number is the only item; otherwise `None`.
-#[tactic(auto, using(crate::proofs::Forms::symbols_short, crate::proofs::Forms::symbols_long))]
-fn read_single_symbol_id(items: &[Value<'_>]) -> Option<SymbolId>
-    ensures { result ≡ read_single_symbol_id (items_data items.now) }
-{
-    match items {
-        [number] => Some(SymbolId::from_number(as_u32(number)?)),
-        _ => None,
-    }
-}
-
-/// Returns the query `name`; `None` if the items aren't one symbol.
-fn name_query<'r>(specifier: &'r str, items: &[Value<'_>]) -> Option<Query<'r>>
-    ensures { option_map query_view result ≡ option_map
-        (query_with_question specifier.now) (read_qualified_name_question (items_data items.now)) }
-{
-    let symbol = read_single_symbol_id(items)?;
-    Some(Query::Name(specifier, symbol))
-}
-
-/// Returns the query `paths`; `None` if the items aren't one symbol.
-fn paths_query<'r>(specifier: &'r str, items: &[Value<'_>]) -> Option<Query<'r>>
-    ensures { option_map query_view result
-        ≡ option_map (query_with_question specifier.now)
-        (read_paths_question (items_data items.now)) }
-{
-    let symbol = read_single_symbol_id(items)?;
-    Some(Query::Paths(specifier, symbol))
-}
-
-/// Returns the query `definitions`; `None` if the items aren't one symbol.
-fn definitions_query<'r>(specifier: &'r str, items: &[Value<'_>]) -> Option<Query<'r>>
-    ensures { option_map query_view result
-        ≡ option_map (query_with_question specifier.now)
-        (read_definitions_question (items_data items.now)) }
-{
-    let symbol = read_single_symbol_id(items)?;
-    Some(Query::Definitions(specifier, symbol))
-}
-
-/// Returns the query `leaves`; `None` if the items aren't one symbol.
-fn leaves_query<'r>(specifier: &'r str, items: &[Value<'_>]) -> Option<Query<'r>>
-    ensures { option_map query_view result
-        ≡ option_map (query_with_question specifier.now)
-        (read_leaves_question (items_data items.now)) }
-{
-    let symbol = read_single_symbol_id(items)?;
-    Some(Query::Leaves(specifier, symbol))
 }
 
 /// Returns the query `resolve`; `None` if the items aren't one reference. The name of the reference
@@ -175,7 +86,7 @@ fn resolve_query<'r>(
 }
 
 /// Returns the mode of a keyword: `types` or `all`.
-pub(crate) fn deps_mode_by_keyword(keyword: &str) -> Option<ResolveDepsMode>
+fn deps_mode_by_keyword(keyword: &str) -> Option<ResolveDepsMode>
     ensures { result ≡ deps_mode_by_keyword keyword.now }
 {
     match keyword {
@@ -185,50 +96,8 @@ pub(crate) fn deps_mode_by_keyword(keyword: &str) -> Option<ResolveDepsMode>
     }
 }
 
-/// Returns the query `deps`; `None` if the items aren't a symbol's number and the keyword of a
-/// mode.
-#[tactic(auto, using(crate::proofs::Forms::deps_short, crate::proofs::Forms::deps_long))]
-fn deps_query<'r>(specifier: &'r str, items: &[Value<'_>]) -> Option<Query<'r>>
-    ensures { option_map query_view result ≡ option_map
-        (query_with_question specifier.now) (read_deps_question (items_data items.now)) }
-{
-    let [number, mode] = items else {
-        return None;
-    };
-    let symbol = SymbolId::from_number(as_u32(number)?);
-    let mode = deps_mode_by_keyword(as_text(mode)?)?;
-    Some(Query::Deps(specifier, symbol, mode))
-}
-
-/// Returns the query of a keyword, a specifier and the items after them; `None` if there is no such
-/// query. The name of a queried reference is stored in `retained`.
-pub(crate) fn query_by_keyword<'r>(
-    alloc: Global,
-    keyword: &str,
-    specifier: &'r str,
-    items: &[Value<'r>],
-    retained: &'r mut Option<Id>,
-) -> Result<Option<Query<'r>>, AllocError>
-    ensures { IfOk result (λ query. option_map query_view query
-        ≡ query_by_keyword (keyword.now, specifier.now, items_data items.now)) }
-{
-    match keyword {
-        "module" => Ok(module_query(specifier, items)),
-        "exports" => Ok(exports_query(specifier, items)),
-        "names" => Ok(names_query(specifier, items)),
-        "symbol" => symbol_query(alloc, specifier, items),
-        "name" => Ok(name_query(specifier, items)),
-        "deps" => Ok(deps_query(specifier, items)),
-        "paths" => Ok(paths_query(specifier, items)),
-        "definitions" => Ok(definitions_query(specifier, items)),
-        "leaves" => Ok(leaves_query(specifier, items)),
-        "resolve" => resolve_query(alloc, specifier, items, retained),
-        _ => Ok(None),
-    }
-}
-
 /// Returns the query of a keyword with a specifier alone; `None` if no such query has this keyword.
-pub(crate) fn query_of_module<'r>(keyword: &str, specifier: &'r str) -> Option<Query<'r>>
+fn query_of_module<'r>(keyword: &str, specifier: &'r str) -> Option<Query<'r>>
     ensures { option_map query_view result ≡ option_map
         (query_with_question specifier.now) (question_by_keyword keyword.now no_items) }
 {
@@ -242,11 +111,7 @@ pub(crate) fn query_of_module<'r>(keyword: &str, specifier: &'r str) -> Option<Q
 
 /// Returns the query of a keyword with a specifier and a symbol; `None` if no such query has this
 /// keyword.
-pub(crate) fn query_of_symbol<'r>(
-    keyword: &str,
-    specifier: &'r str,
-    symbol: SymbolId,
-) -> Option<Query<'r>>
+fn query_of_symbol<'r>(keyword: &str, specifier: &'r str, symbol: SymbolId) -> Option<Query<'r>>
     ensures { option_map query_view result ≡ option_map (query_with_question specifier.now)
         (question_by_keyword
         keyword.now (item (number (unsigned symbol.0)) no_items)) }
@@ -262,7 +127,7 @@ pub(crate) fn query_of_symbol<'r>(
 
 /// Returns the query of a keyword with a specifier, a symbol and a mode; `None` if no such query
 /// has this keyword or the mode is unknown.
-pub(crate) fn query_of_mode<'r>(
+fn query_of_mode<'r>(
     keyword: &str,
     specifier: &'r str,
     symbol: SymbolId,
@@ -275,6 +140,67 @@ pub(crate) fn query_of_mode<'r>(
     match keyword {
         "deps" => Some(Query::Deps(specifier, symbol, deps_mode_by_keyword(mode)?)),
         _ => None,
+    }
+}
+
+/// Returns the query of a keyword, a specifier and the items after them in the form of the fast
+/// path; `None` if there is no such query.
+pub(crate) fn query_of_tail<'r>(
+    keyword: &str,
+    specifier: &'r str,
+    tail: ListTail<'_>,
+) -> Option<Query<'r>>
+    ensures { option_map query_view result ≡ option_map (query_with_question specifier.now)
+        (question_by_keyword keyword.now (items_after_two_strings tail.entry)) }
+{
+    match tail {
+        ListTail::Nothing => query_of_module(keyword, specifier),
+        ListTail::Number(n) => query_of_symbol(keyword, specifier, SymbolId::from_number(n)),
+        ListTail::NumberAndText(n, mode) => {
+            query_of_mode(keyword, specifier, SymbolId::from_number(n), mode)
+        }
+    }
+}
+
+/// Returns the items after a keyword and a specifier in the form of the fast path; `None` if they
+/// don't have it.
+#[tactic(auto, using(crate::proofs::Forms::tail_long))]
+fn list_tail<'a>(items: &[Value<'a>]) -> Option<ListTail<'a>>
+    ensures { option_map items_after_two_strings result ≡ tail_items (items_data items.now) }
+{
+    match items {
+        [] => Some(ListTail::Nothing),
+        [number] => Some(ListTail::Number(as_u32(number)?)),
+        [number, text] => Some(ListTail::NumberAndText(as_u32(number)?, as_text(text)?)),
+        _ => None,
+    }
+}
+
+/// Returns the query of a keyword, a specifier and the items after them; `None` if these don't have
+/// the form of the fast path or there is no such query.
+fn query_of_items<'r>(keyword: &str, specifier: &'r str, items: &[Value<'_>]) -> Option<Query<'r>>
+    ensures { option_map query_view result ≡ option_map (query_with_question specifier.now)
+        (option_and_then (question_by_keyword keyword.now) (tail_items (items_data items.now))) }
+{
+    query_of_tail(keyword, specifier, list_tail(items)?)
+}
+
+/// Returns the query of a keyword, a specifier and the items after them; `None` if there is no such
+/// query. The name of a queried reference is stored in `retained`.
+pub(crate) fn query_by_keyword<'r>(
+    alloc: Global,
+    keyword: &str,
+    specifier: &'r str,
+    items: &[Value<'r>],
+    retained: &'r mut Option<Id>,
+) -> Result<Option<Query<'r>>, AllocError>
+    ensures { IfOk result (λ query. option_map query_view query
+        ≡ query_by_keyword (keyword.now, specifier.now, items_data items.now)) }
+{
+    match keyword {
+        "symbol" => symbol_query(alloc, specifier, items),
+        "resolve" => resolve_query(alloc, specifier, items, retained),
+        _ => Ok(query_of_items(keyword, specifier, items)),
     }
 }
 

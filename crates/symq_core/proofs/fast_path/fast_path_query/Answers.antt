@@ -3,4 +3,4 @@ use Rattle.symq_core.proofs.FastPathLines.{queried_fast}
 use Rattle.symq_core.proofs.fast_path.fast_path_query.Goals as goal
 
 pub returns : goal.returns
-returns c = queried_fast (json_of_bytes c.args.line.now) c.in_ok-list.list c.query_of_list.result c.in_ok-list.ensures c.query_of_list.ensures
+returns c = queried_fast (json_of_bytes c.args.line.now) c.in_ok-list.list c.query_of_tail.result c.in_ok-list.ensures c.query_of_tail.ensures
