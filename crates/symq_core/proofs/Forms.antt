@@ -3,7 +3,7 @@ use Rattle.std.proofs.Common.{◌≡◌, ◌<◌, List, [], ◌∷◌, length, N
 use Rattle.json.specs.declared.value.Value.{Value}
 use Rattle.symq_reader.specs.JsonData.{items_data}
 use Rattle.symq_core.specs.ReferenceForms.{read_id_reference, read_qualified_reference, read_import_reference, keyword_and_items}
-use Rattle.symq_core.specs.Queries.{two_strings_and_items, second_after_inputs, read_symbol_of_ident_question, read_resolve_question}
+use Rattle.symq_core.specs.Queries.{two_strings_and_items, second_after_inputs, read_resolve_question}
 use Rattle.symq_core.specs.inner.TailItems.{tail_items}
 
 pub two_short : {A : Type 0} (values : List (Value A)) → length values < 2 → two_strings_and_items (items_data values) ≡ None
@@ -16,17 +16,6 @@ tail_long [] h = absurd (omega arith)
 tail_long (a ∷ []) h = absurd (omega arith)
 tail_long (a ∷ b ∷ []) h = absurd (omega arith)
 tail_long (a ∷ b ∷ c ∷ values) h = refl
-
-pub symbol_short : {A : Type 0} (values : List (Value A)) → length values < 2 → read_symbol_of_ident_question (items_data values) ≡ None
-symbol_short [] h = refl
-symbol_short (a ∷ []) h = refl
-symbol_short (a ∷ b ∷ values) h = absurd (omega arith)
-
-pub symbol_long : {A : Type 0} (values : List (Value A)) → 2 < length values → read_symbol_of_ident_question (items_data values) ≡ None
-symbol_long [] h = refl
-symbol_long (a ∷ []) h = refl
-symbol_long (a ∷ b ∷ []) h = absurd (omega arith)
-symbol_long (a ∷ b ∷ c ∷ values) h = refl
 
 pub id_short : {A : Type 0} (values : List (Value A)) → length values < 2 → read_id_reference (items_data values) ≡ None
 id_short [] h = refl

@@ -1,12 +1,15 @@
--- A keyword other than `symbol` and `resolve` has queries with items of the fast path alone.
+-- A keyword other than `resolve` has queries with items of the fast path alone.
 use Rattle.std.proofs.Common.{◌≡◌, ◌^◌, ℕ, List, Bool, true, false, Option, None, Some, option_and_then, option_map, refl, ap, ap₂, rules}
 use Rattle.std.specs.Prelude.{if◌then◌else◌, codes, nat_lt}
+use Rattle.std.specs.Option.{option_map_or}
 use Rattle.std.specs.Str.{bytes_eq}
 use Rattle.serde_json.specs.Data.{unsigned, negative, float, Data, null, boolean, number, string, array, object, Items, no_items, item}
 use Rattle.serde_json.specs.Find.{as_str}
 use Rattle.symbols_queries.specs.Queries.{query_with_question}
 use Rattle.symq_reader.specs.UnderKeys.{as_u32}
-use Rattle.symq_core.specs.Queries.{read_single_symbol_id, read_deps_question, question_readers, question_by_keyword, query_by_keyword}
+use Rattle.symq_core.specs.ReferenceForms.{read_id}
+use Rattle.symq_core.specs.Queries.{read_symbol_of_ident_question, read_single_symbol_id, read_deps_question}
+use Rattle.symq_core.specs.Queries.{question_readers, question_by_keyword, query_by_keyword}
 use Rattle.symq_core.specs.inner.TailItems.{tail_items}
 use Rattle.symq_core.proofs.Listed.{and_none, found_none}
 
@@ -41,9 +44,11 @@ one_none keyword d none other =
     let one : read_single_symbol_id (item d no_items) ≡ None = rw none refl in
     found_none keyword question_readers (item d no_items) (search rules)
 
-two_none : (keyword : List ℕ) (d e : Data) → read_deps_question (item d (item e no_items)) ≡ None → bytes_eq keyword (codes "symbol") ≡ false
+two_none : (keyword : List ℕ) (d e : Data) → read_deps_question (item d (item e no_items)) ≡ None → read_id d e ≡ None
     → question_by_keyword keyword (item d (item e no_items)) ≡ None
-two_none keyword d e none other = found_none keyword question_readers (item d (item e no_items)) (search rules)
+two_none keyword d e no_mode no_id =
+    let no_name : read_symbol_of_ident_question (item d (item e no_items)) ≡ None = rw no_id refl in
+    found_none keyword question_readers (item d (item e no_items)) (search rules)
 
 more_none : (keyword : List ℕ) (d e f : Data) (ds : Items) → question_by_keyword keyword (item d (item e (item f ds))) ≡ None
 more_none keyword d e f ds = found_none keyword question_readers (item d (item e (item f ds))) (search rules)
@@ -56,24 +61,28 @@ one_same : (keyword : List ℕ) (d : Data) (n : Option ℕ) → as_u32 d ≡ n �
 one_same keyword d None of_d other = one_none keyword d of_d other
 one_same keyword d (Some n) of_d other = ap (λ x. question_by_keyword keyword (item x no_items)) (number_is d n of_d)
 
-two_same : (keyword : List ℕ) (d e : Data) (n : Option ℕ) (text : Option (List ℕ)) → as_u32 d ≡ n → as_str e ≡ text
-    → bytes_eq keyword (codes "symbol") ≡ false
+two_same : (keyword : List ℕ) (d e : Data) (n m : Option ℕ) (s t : Option (List ℕ)) → as_u32 d ≡ n → as_u32 e ≡ m → as_str d ≡ s → as_str e ≡ t
     → question_by_keyword keyword (item d (item e no_items)) ≡ option_and_then (question_by_keyword keyword)
-    (option_and_then (λ m. option_map (λ s. item (number (unsigned m)) (item (string s) no_items)) text) n)
-two_same keyword d e None text of_d of_e other = two_none keyword d e (rw of_d refl) other
-two_same keyword d e (Some n) None of_d of_e other = two_none keyword d e (and_none (as_u32 d) _ (λ m. rw of_e refl)) other
-two_same keyword d e (Some n) (Some text) of_d of_e other =
-    ap₂ (λ x y. question_by_keyword keyword (item x (item y no_items))) (number_is d n of_d) (text_is e text of_e)
+    (option_map_or (λ k. option_map (λ x. item (number (unsigned k)) (item (string x) no_items)) t) n
+    (option_and_then (λ x. option_map (λ k. item (string x) (item (number (unsigned k)) no_items)) m) s))
+two_same keyword d e (Some k) m s (Some x) number_d number_e text_d text_e =
+    ap₂ (λ a b. question_by_keyword keyword (item a (item b no_items))) (number_is d k number_d) (text_is e x text_e)
+two_same keyword d e (Some k) m s None number_d number_e text_d text_e =
+    two_none keyword d e (and_none (as_u32 d) _ (λ j. rw text_e refl)) (rw (number_is d k number_d) refl)
+two_same keyword d e None (Some k) (Some x) t number_d number_e text_d text_e =
+    ap₂ (λ a b. question_by_keyword keyword (item a (item b no_items))) (text_is d x text_d) (number_is e k number_e)
+two_same keyword d e None None (Some x) t number_d number_e text_d text_e =
+    two_none keyword d e (rw number_d refl) (and_none (as_str d) _ (λ y. rw number_e refl))
+two_same keyword d e None m None t number_d number_e text_d text_e = two_none keyword d e (rw number_d refl) (rw text_d refl)
 
-same_question : (keyword : List ℕ) (items : Items) → bytes_eq keyword (codes "symbol") ≡ false → bytes_eq keyword (codes "resolve") ≡ false
+same_question : (keyword : List ℕ) (items : Items) → bytes_eq keyword (codes "resolve") ≡ false
     → question_by_keyword keyword items ≡ option_and_then (question_by_keyword keyword) (tail_items items)
-same_question keyword no_items no_symbol no_resolve = refl
-same_question keyword (item d no_items) no_symbol no_resolve = one_same keyword d (as_u32 d) refl no_resolve
-same_question keyword (item d (item e no_items)) no_symbol no_resolve = two_same keyword d e (as_u32 d) (as_str e) refl refl no_symbol
-same_question keyword (item d (item e (item f ds))) no_symbol no_resolve = more_none keyword d e f ds
+same_question keyword no_items other = refl
+same_question keyword (item d no_items) other = one_same keyword d (as_u32 d) refl other
+same_question keyword (item d (item e no_items)) other = two_same keyword d e (as_u32 d) (as_u32 e) (as_str d) (as_str e) refl refl refl refl
+same_question keyword (item d (item e (item f ds))) other = more_none keyword d e f ds
 
-pub query_of_tail_items : (keyword specifier : List ℕ) (items : Items) → bytes_eq keyword (codes "symbol") ≡ false → bytes_eq keyword (codes "resolve") ≡ false
+pub query_of_tail_items : (keyword specifier : List ℕ) (items : Items) → bytes_eq keyword (codes "resolve") ≡ false
     → query_by_keyword (keyword, specifier, items) ≡ option_map (query_with_question specifier)
     (option_and_then (question_by_keyword keyword) (tail_items items))
-query_of_tail_items keyword specifier items no_symbol no_resolve = ap (option_map (query_with_question specifier))
-    (same_question keyword items no_symbol no_resolve)
+query_of_tail_items keyword specifier items other = ap (option_map (query_with_question specifier)) (same_question keyword items other)

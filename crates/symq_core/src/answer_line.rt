@@ -146,7 +146,7 @@ fn write_line_answer(
     ensures value { AppendsValueTokensIfOk result out.old out.new (query_result_json root.old.rules
         root.old.graph (option_and_then query_of_json (json_of_bytes line.now))) }
 {
-    match fast_path_query(line) {
+    match fast_path_query(alloc, line)? {
         Some(fast) => write_query_answer(out, root, &fast),
         None => write_parsed_line_answer(alloc, scratch, out, root, line),
     }

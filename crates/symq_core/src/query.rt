@@ -10,13 +10,12 @@ ghost use Rattle.symbols_queries.specs.Queries.{query_with_question, query_view,
 ghost use Rattle.symq_reader.specs.JsonData.{value_data, items_data};
 ghost use Rattle.symq_reader.specs.QueryLists.{items_after_two_strings};
 ghost use Rattle.symq_core.specs.Queries.{keyword_specifier_and_items, query_by_keyword, value_after_inputs};
-ghost use Rattle.symq_core.specs.Queries.{inputs_query_of_data, read_symbol_of_ident_question};
-ghost use Rattle.symq_core.specs.Queries.{read_resolve_question, deps_mode_by_keyword, question_by_keyword};
-ghost use Rattle.symq_core.specs.Queries.{answer_json};
+ghost use Rattle.symq_core.specs.Queries.{inputs_query_of_data, read_resolve_question};
+ghost use Rattle.symq_core.specs.Queries.{deps_mode_by_keyword, question_by_keyword, answer_json};
 ghost use Rattle.symq_core.specs.inner.JsonWriting.{AppendsValueTokensIfOk};
 ghost use Rattle.symq_core.specs.inner.TailItems.{tail_items};
 
-use crate::references::{read_id, read_reference};
+use crate::references::read_reference;
 use crate::write_exports::write_exports;
 use crate::write_json::{write_list, write_null, write_number, write_text};
 use crate::write_paths::write_paths;
@@ -40,26 +39,6 @@ pub(crate) fn keyword_specifier_and_items<'v, 'a>(
     match as_list(value)? {
         [keyword, specifier, rest @ ..] => Some((as_text(keyword)?, as_text(specifier)?, rest)),
         _ => None,
-    }
-}
-
-/// Returns the query `symbol`; `None` if the items aren't a name and its scope.
-#[tactic(auto, using(crate::proofs::Forms::symbol_short, crate::proofs::Forms::symbol_long))]
-fn symbol_query<'r>(
-    alloc: Global,
-    specifier: &'r str,
-    items: &[Value<'_>],
-) -> Result<Option<Query<'r>>, AllocError>
-    ensures { IfOk result (λ query. option_map query_view query
-        ≡ option_map (query_with_question specifier.now)
-        (read_symbol_of_ident_question (items_data items.now))) }
-{
-    let [name, scope] = items else {
-        return Ok(None);
-    };
-    match read_id(alloc, name, scope)? {
-        Some(id) => Ok(Some(Query::Symbol(specifier, id))),
-        None => Ok(None),
     }
 }
 
@@ -143,22 +122,47 @@ fn query_of_mode<'r>(
     }
 }
 
+/// Returns the query of a keyword with a specifier and a name of a scope; `None` if no such query
+/// has this keyword.
+fn query_of_id<'r>(
+    alloc: Global,
+    keyword: &str,
+    specifier: &'r str,
+    name: &str,
+    scope: u32,
+) -> Result<Option<Query<'r>>, AllocError>
+    ensures { IfOk result (λ query. option_map query_view query
+        ≡ option_map (query_with_question specifier.now) (question_by_keyword keyword.now
+        (item (string name.now) (item (number (unsigned scope)) no_items)))) }
+{
+    match keyword {
+        "symbol" => {
+            let name = String::from_str(alloc, name)?;
+            Ok(Some(Query::Symbol(specifier, Id { name, scope })))
+        }
+        _ => Ok(None),
+    }
+}
+
 /// Returns the query of a keyword, a specifier and the items after them in the form of the fast
 /// path; `None` if there is no such query.
 pub(crate) fn query_of_tail<'r>(
+    alloc: Global,
     keyword: &str,
     specifier: &'r str,
     tail: ListTail<'_>,
-) -> Option<Query<'r>>
-    ensures { option_map query_view result ≡ option_map (query_with_question specifier.now)
-        (question_by_keyword keyword.now (items_after_two_strings tail.entry)) }
+) -> Result<Option<Query<'r>>, AllocError>
+    ensures { IfOk result (λ query. option_map query_view query
+        ≡ option_map (query_with_question specifier.now)
+        (question_by_keyword keyword.now (items_after_two_strings tail.entry))) }
 {
     match tail {
-        ListTail::Nothing => query_of_module(keyword, specifier),
-        ListTail::Number(n) => query_of_symbol(keyword, specifier, SymbolId::from_number(n)),
+        ListTail::Nothing => Ok(query_of_module(keyword, specifier)),
+        ListTail::Number(n) => Ok(query_of_symbol(keyword, specifier, SymbolId::from_number(n))),
         ListTail::NumberAndText(n, mode) => {
-            query_of_mode(keyword, specifier, SymbolId::from_number(n), mode)
+            Ok(query_of_mode(keyword, specifier, SymbolId::from_number(n), mode))
         }
+        ListTail::TextAndNumber(name, scope) => query_of_id(alloc, keyword, specifier, name, scope),
     }
 }
 
@@ -171,18 +175,30 @@ fn list_tail<'a>(items: &[Value<'a>]) -> Option<ListTail<'a>>
     match items {
         [] => Some(ListTail::Nothing),
         [number] => Some(ListTail::Number(as_u32(number)?)),
-        [number, text] => Some(ListTail::NumberAndText(as_u32(number)?, as_text(text)?)),
+        [first, second] => match as_u32(first) {
+            Some(n) => Some(ListTail::NumberAndText(n, as_text(second)?)),
+            None => Some(ListTail::TextAndNumber(as_text(first)?, as_u32(second)?)),
+        },
         _ => None,
     }
 }
 
 /// Returns the query of a keyword, a specifier and the items after them; `None` if these don't have
 /// the form of the fast path or there is no such query.
-fn query_of_items<'r>(keyword: &str, specifier: &'r str, items: &[Value<'_>]) -> Option<Query<'r>>
-    ensures { option_map query_view result ≡ option_map (query_with_question specifier.now)
-        (option_and_then (question_by_keyword keyword.now) (tail_items (items_data items.now))) }
+fn query_of_items<'r>(
+    alloc: Global,
+    keyword: &str,
+    specifier: &'r str,
+    items: &[Value<'_>],
+) -> Result<Option<Query<'r>>, AllocError>
+    ensures { IfOk result (λ query. option_map query_view query
+        ≡ option_map (query_with_question specifier.now)
+        (option_and_then (question_by_keyword keyword.now) (tail_items (items_data items.now)))) }
 {
-    query_of_tail(keyword, specifier, list_tail(items)?)
+    match list_tail(items) {
+        Some(tail) => query_of_tail(alloc, keyword, specifier, tail),
+        None => Ok(None),
+    }
 }
 
 /// Returns the query of a keyword, a specifier and the items after them; `None` if there is no such
@@ -198,9 +214,8 @@ pub(crate) fn query_by_keyword<'r>(
         ≡ query_by_keyword (keyword.now, specifier.now, items_data items.now)) }
 {
     match keyword {
-        "symbol" => symbol_query(alloc, specifier, items),
         "resolve" => resolve_query(alloc, specifier, items, retained),
-        _ => Ok(query_of_items(keyword, specifier, items)),
+        _ => query_of_items(alloc, keyword, specifier, items),
     }
 }
 

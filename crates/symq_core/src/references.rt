@@ -22,11 +22,7 @@ use symbols_nodes::deps::SymbolNodeDep;
 use symq_reader::{as_list, as_text, as_u32};
 
 /// Returns a name with its scope; `None` if the values aren't a string and a number of 32 bits.
-pub(crate) fn read_id(
-    alloc: Global,
-    name: &Value<'_>,
-    scope: &Value<'_>,
-) -> Result<Option<Id>, AllocError>
+fn read_id(alloc: Global, name: &Value<'_>, scope: &Value<'_>) -> Result<Option<Id>, AllocError>
     ensures { IfOk result
         (λ id. option_map id_view id ≡ read_id (value_data name.now) (value_data scope.now)) }
 {

@@ -21,7 +21,7 @@ use Rattle.symq_reader.specs.JsonData.{number_or_minus_one, json_data, json_item
 use Rattle.symq_reader.specs.inner.JsonData.{json_has_whole_numbers, json_items_have_whole_numbers}
 use Rattle.symq_reader.specs.QueryLists.{items_after_two_strings, query_array_json}
 use Rattle.symq_reader.specs.declared.query_list.ListTail.{ListTail}
-use Rattle.symq_reader.specs.declared.query_list.ListTail.TheVariants.{Nothing, Number, NumberAndText}
+use Rattle.symq_reader.specs.declared.query_list.ListTail.TheVariants.{Nothing, Number, NumberAndText, TextAndNumber}
 use Rattle.symq_reader.specs.declared.query_list.QueryList.{QueryList}
 use Rattle.symq_reader.proofs.Texts.{fitting_value}
 
@@ -29,6 +29,7 @@ abbrev after_tokens : ListTail → List Token
 after_tokens Nothing = token.end_array ∷ []
 after_tokens (Number n) = token.number (decimal n) ∷ token.end_array ∷ []
 after_tokens (NumberAndText n text) = token.number (decimal n) ∷ token.string text.now ∷ token.end_array ∷ []
+after_tokens (TextAndNumber text n) = token.string text.now ∷ token.number (decimal n) ∷ token.end_array ∷ []
 
 abbrev list_tokens : QueryList → List Token
 list_tokens l = token.begin_array ∷ token.string l.first.now ∷ token.string l.second.now ∷ after_tokens l.tail
@@ -37,6 +38,7 @@ abbrev after_values : ListTail → json.Items
 after_values Nothing = json.no_items
 after_values (Number n) = json.item (json.number (decimal n)) json.no_items
 after_values (NumberAndText n text) = json.item (json.number (decimal n)) (json.item (json.string text.now) json.no_items)
+after_values (TextAndNumber text n) = json.item (json.string text.now) (json.item (json.number (decimal n)) json.no_items)
 
 abbrev list_value : QueryList → json.Json
 list_value l = json.array (json.item (json.string l.first.now) (json.item (json.string l.second.now) (after_values l.tail)))
@@ -60,6 +62,12 @@ after_spaced bytes (NumberAndText n text) (rest, is, more) = record {
   viewed = refl;
   text = is.text ∙ ap (λ r. 44 ∷ (is.gap ++ (decimal n ++ r))) more.text;
 }
+after_spaced bytes (TextAndNumber text n) (rest, is, more) = record {
+  pairs = (is.gap, token.string text.now) ∷ (more.gap, token.number (decimal n)) ∷ ([], token.end_array) ∷ [];
+  gaps = (is.is_gap, (more.is_gap, (tt, tt)));
+  viewed = refl;
+  text = is.text ∙ ap (λ r. 44 ∷ (is.gap ++ (quoted text.now ++ r))) more.text;
+}
 
 list_spaced : (bytes : List ℕ) (l : QueryList) → IsQueryArrayText bytes l → Spaced false bytes (list_tokens l)
 unfolding print_spaced
@@ -79,6 +87,7 @@ unfolding ArePrintable
 after_printable Nothing h = (tt, tt)
 after_printable (Number n) h = (IsNumber-decimal n h, (tt, tt))
 after_printable (NumberAndText n text) h = (IsNumber-decimal n h.0, (tt, (tt, tt)))
+after_printable (TextAndNumber text n) h = (tt, (IsNumber-decimal n h.0, (tt, tt)))
 
 list_printable : (l : QueryList) → HasU64NumberAndUtf8Text l.tail → ArePrintable (list_tokens l)
 unfolding ArePrintable
@@ -97,16 +106,19 @@ unfolding value items
 after_read first second Nothing = refl
 after_read first second (Number n) = refl
 after_read first second (NumberAndText n text) = refl
+after_read first second (TextAndNumber text n) = refl
 
 after_fit : (b : ListTail) → HasU64NumberAndUtf8Text b → json_items_have_whole_numbers (after_values b) ≡ true
 after_fit Nothing h = refl
 after_fit (Number n) h = rw (number_of-decimal n h) refl
 after_fit (NumberAndText n text) h = rw (number_of-decimal n h.0) refl
+after_fit (TextAndNumber text n) h = rw (number_of-decimal n h.0) refl
 
 after_unescaped : (b : ListTail) → HasU64NumberAndUtf8Text b → json_items_data (after_values b) ≡ items_after_two_strings b
 after_unescaped Nothing h = refl
 after_unescaped (Number n) h = ap (λ o. item (number (number_or_minus_one o)) no_items) (number_of-decimal n h)
 after_unescaped (NumberAndText n text) h = ap (λ o. item (number (number_or_minus_one o)) (item (string text.now) no_items)) (number_of-decimal n h.0)
+after_unescaped (TextAndNumber text n) h = ap (λ o. item (string text.now) (item (number (number_or_minus_one o)) no_items)) (number_of-decimal n h.0)
 
 -- ---- the text is UTF-8
 
@@ -126,6 +138,9 @@ utf8_after bytes (Number n) h is = utf8_comma bytes _ is (IsUtf8-append (decimal
 utf8_after bytes (NumberAndText n text) h (rest, is, more) =
     utf8_comma bytes _ is (IsUtf8-append (decimal n) rest (utf8_decimal n h.0)
     (utf8_comma rest _ more (IsUtf8-append (quoted text.now) (93 ∷ []) (IsUtf8-quoted text.now h.1) utf8_bracket)))
+utf8_after bytes (TextAndNumber text n) h (rest, is, more) =
+    utf8_comma bytes _ is (IsUtf8-append (quoted text.now) rest (IsUtf8-quoted text.now h.1)
+    (utf8_comma rest _ more (IsUtf8-append (decimal n) (93 ∷ []) (utf8_decimal n h.0) utf8_bracket)))
 
 utf8_list : (bytes : List ℕ) (l : QueryList) → IsUtf8 l.first.now → IsUtf8 l.second.now → HasU64NumberAndUtf8Text l.tail → IsQueryArrayText bytes l
     → IsUtf8 bytes

@@ -33,6 +33,8 @@ pub enum ListTail<'a> {
     Number(u32),
     /// A number and a string.
     NumberAndText(u32, &'a str),
+    /// A string and a number.
+    TextAndNumber(&'a str, u32),
 }
 
 /// A list that begins with two strings.
@@ -122,7 +124,16 @@ fn list_tail(bytes: &[u8]) -> Option<ListTail<'_>>
     if is_end(bytes) {
         return Some(ListTail::Nothing);
     }
-    let (n, rest) = short_number(after_comma(bytes)?)?;
+    let items = after_comma(bytes)?;
+    if let Some((text, rest)) = quoted(items) {
+        let (n, rest) = short_number(after_comma(rest)?)?;
+        return if is_end(rest) {
+            Some(ListTail::TextAndNumber(text, n))
+        } else {
+            None
+        };
+    }
+    let (n, rest) = short_number(items)?;
     if is_end(rest) {
         return Some(ListTail::Number(n));
     }
@@ -151,9 +162,9 @@ fn list_in(bytes: &[u8]) -> Option<QueryList<'_>>
 }
 
 /// Returns the list of a query line on the fast path (extension). It is two strings, then nothing,
-/// a number of at most nine digits, or such a number and a string. One space may follow each comma.
-/// `None` doesn't mean that the line is no query: strings with escapes and other spacing are
-/// unsupported here.
+/// a number of at most nine digits, or such a number and a string in either order. One space may
+/// follow each comma. `None` doesn't mean that the line is no query: strings with escapes and other
+/// spacing are unsupported here.
 pub fn read_query_list(bytes: &[u8]) -> Option<QueryList<'_>>
     ensures { IfSome result (λ found. json_of_bytes bytes.now ≡ Some (query_array_json found)) }
 {

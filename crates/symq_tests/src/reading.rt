@@ -193,6 +193,8 @@ fn reads_lists_of_the_query_form() -> Checked {
         (r#"["deps","a",7,"all"]"#, true),
         (r#"["deps", "é", 10, "types"]"#, true),
         (r#"["definitions", "a", 1]"#, true),
+        (r#"["symbol","a","b",0]"#, true),
+        (r#"["symbol", "a", "é", 123456789]"#, true),
         (r#"["twelve bytes","a"]"#, true),
         (r#"["thirteen byte","a"]"#, false),
         (r#"["modulé","a"]"#, false),
@@ -204,6 +206,8 @@ fn reads_lists_of_the_query_form() -> Checked {
         (r#"["name","\u0061",1]"#, false),
         (r#"["name","a",1] "#, false),
         (r#"["name","a","b"]"#, false),
+        (r#"["symbol","a","\u0062",1]"#, false),
+        (r#"["symbol","a","b",1,2]"#, false),
     ] {
         if read_query_list(text.as_bytes()).is_some() != expected {
             return Err(text);

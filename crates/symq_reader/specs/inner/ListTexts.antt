@@ -4,7 +4,7 @@ use Rattle.std.specs.Str.{IsUtf8}
 use Rattle.json.specs.Print.{quoted}
 use Rattle.json.specs.Spaced.{IsGap}
 use Rattle.symq_reader.specs.declared.query_list.ListTail.{ListTail}
-use Rattle.symq_reader.specs.declared.query_list.ListTail.TheVariants.{Nothing, Number, NumberAndText}
+use Rattle.symq_reader.specs.declared.query_list.ListTail.TheVariants.{Nothing, Number, NumberAndText, TextAndNumber}
 use Rattle.symq_reader.specs.declared.query_list.QueryList.{QueryList}
 
 -- the bytes are a comma, optional white space and the rest
@@ -18,6 +18,7 @@ abbrev pub IsTextAfterTwoStrings : List ℕ → ListTail → Type 0
 IsTextAfterTwoStrings bytes Nothing = bytes ≡ 93 ∷ []
 IsTextAfterTwoStrings bytes (Number n) = IsAfterComma bytes (decimal n ++ 93 ∷ [])
 IsTextAfterTwoStrings bytes (NumberAndText n text) = (rest : List ℕ) × IsAfterComma bytes (decimal n ++ rest) × IsAfterComma rest (quoted text.now ++ 93 ∷ [])
+IsTextAfterTwoStrings bytes (TextAndNumber text n) = (rest : List ℕ) × IsAfterComma bytes (quoted text.now ++ rest) × IsAfterComma rest (decimal n ++ 93 ∷ [])
 
 -- the text of the whole list
 pub record IsQueryArrayText (bytes : List ℕ) (list : QueryList) : Type 0 where
@@ -32,3 +33,4 @@ abbrev pub HasU64NumberAndUtf8Text : ListTail → Type 0
 HasU64NumberAndUtf8Text Nothing = Unit {0}
 HasU64NumberAndUtf8Text (Number n) = n < 2 ^ 64
 HasU64NumberAndUtf8Text (NumberAndText n text) = (n < 2 ^ 64) × IsUtf8 text.now
+HasU64NumberAndUtf8Text (TextAndNumber text n) = (n < 2 ^ 64) × IsUtf8 text.now
