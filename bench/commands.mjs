@@ -13,11 +13,9 @@ import { appendFileSync, cpSync, existsSync, mkdtempSync, rmSync } from 'node:fs
 import os from 'node:os';
 import path from 'node:path';
 import { fileURLToPath } from 'node:url';
-import { parseArgs } from 'node:util';
 
-import { forgetTrees, least, plainEnvironment, timeText, timedRun } from './measuring.mjs';
+import { SYMQ, argumentsOf, forgetTrees, least, needSymq, plainEnvironment, timeText, timedRun, usageError } from './measuring.mjs';
 
-const SELF = fileURLToPath(import.meta.url);
 const SYMDIR = fileURLToPath(new URL('../symdir/bin/symdir.js', import.meta.url));
 const SERVICE = fileURLToPath(new URL('./service.mjs', import.meta.url));
 const USAGE = 'usage: node bench/commands.mjs [--rounds N] [--symq FILE] [--typescript DIR] [--commands NAME,..] FOLDER..';
@@ -107,32 +105,13 @@ function compareAll(folders, names) {
   for (const [name, row] of cells) console.log(`| \`${name}\` | ${row.join(' | ')} |`);
 }
 
-/** @param {string} text what is wrong with the arguments @returns {never} */
-function usageError(text) {
-  console.error(`${path.basename(SELF)}: ${text}\n${USAGE}`);
-  process.exit(2);
-}
-
-function argumentsOf() {
-  try {
-    return parseArgs({ allowPositionals: true, options: {
-      rounds: { type: 'string', default: '3' }, symq: { type: 'string', default: fileURLToPath(new URL('../crates/symq/out/symq', import.meta.url)) },
-      typescript: { type: 'string' }, commands: { type: 'string', default: Object.keys(COMMANDS).join() }, help: { type: 'boolean', short: 'h' } } });
-  } catch (error) {
-    return usageError(/** @type {Error} */ (error).message.split('. To specify')[0]);
-  }
-}
-
-const { values, positionals } = argumentsOf();
-if (values.help) {
-  console.log(USAGE);
-  process.exit(0);
-}
+const { values, positionals } = argumentsOf(USAGE, {
+  rounds: { type: 'string', default: '3' }, symq: SYMQ, typescript: { type: 'string' }, commands: { type: 'string', default: Object.keys(COMMANDS).join() } });
 const names = String(values.commands).split(',');
-if (!(Number(values.rounds) >= 1)) usageError('--rounds is a number from 1');
-for (const it of names) if (!Object.hasOwn(COMMANDS, it)) usageError(`no command ${it}; there are ${Object.keys(COMMANDS).join(', ')}`);
-if (positionals.length === 0) usageError('which directories?');
-for (const it of positionals) if (!existsSync(it)) usageError(`no directory ${it}`);
-if (values.typescript && !existsSync(path.join(String(values.typescript), 'bin', 'tsc'))) usageError(`no TypeScript in ${values.typescript}`);
-if (!existsSync(String(values.symq))) usageError(`no program ${values.symq}: \`make symq\` builds it, --symq FILE names it`);
+if (!(Number(values.rounds) >= 1)) usageError(USAGE, '--rounds is a number from 1');
+for (const it of names) if (!Object.hasOwn(COMMANDS, it)) usageError(USAGE, `no command ${it}; there are ${Object.keys(COMMANDS).join(', ')}`);
+if (positionals.length === 0) usageError(USAGE, 'which directories?');
+for (const it of positionals) if (!existsSync(it)) usageError(USAGE, `no directory ${it}`);
+if (values.typescript && !existsSync(path.join(String(values.typescript), 'bin', 'tsc'))) usageError(USAGE, `no TypeScript in ${values.typescript}`);
+needSymq(USAGE, String(values.symq));
 compareAll(positionals.map((it) => path.resolve(it)), names);

@@ -10,7 +10,8 @@ import { mkdtempSync, readFileSync, rmSync, writeFileSync } from 'node:fs';
 import os from 'node:os';
 import path from 'node:path';
 import { fileURLToPath } from 'node:url';
-import { parseArgs } from 'node:util';
+
+import { argumentsOf, usageError } from './measuring.mjs';
 
 const SELF = fileURLToPath(import.meta.url);
 const COMMAND = fileURLToPath(new URL('../symdir/bin/symdir.js', import.meta.url));
@@ -102,30 +103,15 @@ function compare(kind, { megabytes, rounds, command }) {
   }
 }
 
-/** @param {string} text what is wrong with the arguments @returns {never} */
-function usageError(text) {
-  console.error(`huge.mjs: ${text}\n${USAGE}`);
-  process.exit(2);
-}
-
-function argumentsOf() {
-  try {
-    return parseArgs({ allowPositionals: true, options: {
-      megabytes: { type: 'string', default: '17' }, rounds: { type: 'string', default: '3' }, kinds: { type: 'string', default: KINDS.join(',') },
-      command: { type: 'boolean', default: false }, time: { type: 'string' }, help: { type: 'boolean', short: 'h' } } });
-  } catch (error) {
-    return usageError(/** @type {Error} */ (error).message.split('. To specify')[0]);
-  }
-}
-
-const { values, positionals: [file] } = argumentsOf();
-if (values.help) console.log(USAGE);
-else if (values.time) console.log(await (values.time === 'parse' ? parse(file) : convert(file)));
+const { values, positionals: [file] } = argumentsOf(USAGE, {
+  megabytes: { type: 'string', default: '17' }, rounds: { type: 'string', default: '3' }, kinds: { type: 'string', default: KINDS.join(',') },
+  command: { type: 'boolean', default: false }, time: { type: 'string' } });
+if (values.time) console.log(await (values.time === 'parse' ? parse(file) : convert(file)));
 else {
   const kinds = String(values.kinds).split(',');
   const odd = kinds.find((it) => !KINDS.includes(it));
-  if (odd !== undefined) usageError(`no kind ${odd}: there are ${KINDS.join(', ')}`);
+  if (odd !== undefined) usageError(USAGE, `no kind ${odd}: there are ${KINDS.join(', ')}`);
   const [megabytes, rounds] = [Number(values.megabytes), Number(values.rounds)];
-  if (!(megabytes > 0) || !(rounds >= 1)) usageError('--megabytes and --rounds are numbers from 1');
+  if (!(megabytes > 0) || !(rounds >= 1)) usageError(USAGE, '--megabytes and --rounds are numbers from 1');
   for (const it of kinds) compare(it, { megabytes, rounds, command: Boolean(values.command) });
 }

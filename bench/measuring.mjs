@@ -1,10 +1,43 @@
-// What sources.mjs and commands.mjs share: runs of Node that are timed, the least time of several, and ratios of times.
+// What these programs share: how they are called, runs of Node that are timed, the least time of several, and ratios of times.
 import { spawnSync } from 'node:child_process';
 import { existsSync, readFileSync, readdirSync, rmSync } from 'node:fs';
 import path from 'node:path';
+import { fileURLToPath } from 'node:url';
+import { parseArgs } from 'node:util';
 
 /** @typedef {{ clock: number, processors: number }} Time in seconds, on the clock and of all processors */
 /** @typedef {{ time: Time, status: number | null, signal: NodeJS.Signals | null, stdout: string, stderr: string }} Timed */
+
+/** The option that names symq. */
+export const SYMQ = { type: /** @type {const} */ ('string'), default: fileURLToPath(new URL('../crates/symq/out/symq', import.meta.url)) };
+
+/** @param {string} usage of this program, which ends @param {string} text what is wrong with its arguments @returns {never} */
+export function usageError(usage, text) {
+  console.error(`${path.basename(process.argv[1])}: ${text}\n${usage}`);
+  process.exit(2);
+}
+
+/**
+ * Reads the arguments of this program. `--help` prints the usage.
+ * @template {NonNullable<import('node:util').ParseArgsConfig['options']>} T
+ * @param {string} usage
+ * @param {T} options
+ */
+export function argumentsOf(usage, options) {
+  try {
+    const { values, positionals } = parseArgs({ allowPositionals: true, options: { ...options, help: { type: /** @type {const} */ ('boolean'), short: 'h' } } });
+    if (!(/** @type {{ help?: boolean }} */ (values).help)) return { values, positionals };
+  } catch (error) {
+    usageError(usage, /** @type {Error} */ (error).message.split('. To specify')[0]);
+  }
+  console.log(usage);
+  process.exit(0);
+}
+
+/** @param {string} usage @param {string} symq a program that has to be there */
+export function needSymq(usage, symq) {
+  if (!existsSync(symq)) usageError(usage, `no program ${symq}: \`make symq\` builds it, --symq FILE names it`);
+}
 
 /** @returns {NodeJS.ProcessEnv} that of this process without further certificates, which Node reads before it starts */
 export function plainEnvironment() {

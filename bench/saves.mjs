@@ -11,11 +11,9 @@ import os from 'node:os';
 import path from 'node:path';
 import { setTimeout } from 'node:timers/promises';
 import { fileURLToPath } from 'node:url';
-import { parseArgs } from 'node:util';
 
-import { plainEnvironment } from './measuring.mjs';
+import { SYMQ, argumentsOf, needSymq, plainEnvironment, usageError } from './measuring.mjs';
 
-const SELF = fileURLToPath(import.meta.url);
 const SYMDIR = fileURLToPath(new URL('../symdir/bin/symdir.js', import.meta.url));
 const USAGE = 'usage: node bench/saves.mjs [--saves N] [--command NAME] [--symq FILE] [--typescript DIR] FOLDER FILE';
 const WATCHED = ['api', 'leaks', 'missing'];
@@ -100,30 +98,11 @@ async function measure(folder, file) {
   console.log(`${path.basename(folder)} ${values.command} --watch, ${values.saves} saves of ${file}: clock ${timesText(times.clock)}; its process ${timesText(times.processors)}`);
 }
 
-/** @param {string} text what is wrong with the arguments @returns {never} */
-function usageError(text) {
-  console.error(`${path.basename(SELF)}: ${text}\n${USAGE}`);
-  process.exit(2);
-}
-
-function argumentsOf() {
-  try {
-    return parseArgs({ allowPositionals: true, options: {
-      saves: { type: 'string', default: '20' }, command: { type: 'string', default: 'api' }, typescript: { type: 'string' },
-      symq: { type: 'string', default: fileURLToPath(new URL('../crates/symq/out/symq', import.meta.url)) }, help: { type: 'boolean', short: 'h' } } });
-  } catch (error) {
-    return usageError(/** @type {Error} */ (error).message.split('. To specify')[0]);
-  }
-}
-
-const { values, positionals: [folder, file] } = argumentsOf();
-if (values.help) {
-  console.log(USAGE);
-  process.exit(0);
-}
-if (!(Number(values.saves) >= 1)) usageError('--saves is a number from 1');
-if (!WATCHED.includes(String(values.command))) usageError(`no command ${values.command}; there are ${WATCHED.join(', ')}`);
-if (folder === undefined || file === undefined) usageError('which directory, and which file in it?');
-if (!existsSync(path.join(folder, file))) usageError(`no file ${file} in ${folder}`);
-if (!existsSync(String(values.symq))) usageError(`no program ${values.symq}: \`make symq\` builds it, --symq FILE names it`);
+const { values, positionals: [folder, file] } = argumentsOf(USAGE, {
+  saves: { type: 'string', default: '20' }, command: { type: 'string', default: 'api' }, typescript: { type: 'string' }, symq: SYMQ });
+if (!(Number(values.saves) >= 1)) usageError(USAGE, '--saves is a number from 1');
+if (!WATCHED.includes(String(values.command))) usageError(USAGE, `no command ${values.command}; there are ${WATCHED.join(', ')}`);
+if (folder === undefined || file === undefined) usageError(USAGE, 'which directory, and which file in it?');
+if (!existsSync(path.join(folder, file))) usageError(USAGE, `no file ${file} in ${folder}`);
+needSymq(USAGE, String(values.symq));
 await measure(path.resolve(folder), file);

@@ -10,18 +10,17 @@
 // It prints the least times of the rounds on the clock and of the processors, in seconds, and their ratios to the checker's. The
 // latter include child processes and are measured on Linux only. Both read the same files, the modules of TypeScript below the
 // directory, and both print how many names they found.
-import { existsSync, mkdtempSync, rmSync } from 'node:fs';
+import { mkdtempSync, rmSync } from 'node:fs';
 import { createRequire } from 'node:module';
 import os from 'node:os';
 import path from 'node:path';
 import { fileURLToPath } from 'node:url';
-import { parseArgs } from 'node:util';
 
 import { begin } from '../symdir/lib/folder/begin.js';
 import { Files, isFolder } from '../symdir/lib/folder/files.js';
 import { isJavaScript } from '../symdir/lib/language.js';
 import { findTypeScript } from '../symdir/lib/typescript.js';
-import { forgetTrees, least, plainEnvironment, timeText, timedRun } from './measuring.mjs';
+import { SYMQ, argumentsOf, forgetTrees, least, needSymq, plainEnvironment, timeText, timedRun, usageError } from './measuring.mjs';
 
 /** @typedef {import('./measuring.mjs').Time} Time */
 
@@ -119,33 +118,14 @@ function compare(folder, rounds, symq) {
   for (const it of counts) console.log(`  ${it}`);
 }
 
-/** @param {string} text what is wrong with the arguments @returns {never} */
-function usageError(text) {
-  console.error(`sources.mjs: ${text}\n${USAGE}`);
-  process.exit(2);
-}
-
-function argumentsOf() {
-  try {
-    return parseArgs({ allowPositionals: true, options: {
-      rounds: { type: 'string', default: '5' }, symq: { type: 'string', default: fileURLToPath(new URL('../crates/symq/out/symq', import.meta.url)) }, ask: { type: 'string' },
-      environment: { type: 'string', default: 'plain' }, help: { type: 'boolean', short: 'h' } } });
-  } catch (error) {
-    return usageError(/** @type {Error} */ (error).message.split('. To specify')[0]);
-  }
-}
-
-const { values, positionals } = argumentsOf();
+const { values, positionals } = argumentsOf(USAGE, {
+  rounds: { type: 'string', default: '5' }, symq: SYMQ, ask: { type: 'string' }, environment: { type: 'string', default: 'plain' } });
 const folders = positionals.map((it) => path.resolve(it));
-if (values.help) {
-  console.log(USAGE);
-  process.exit(0);
-}
-if (!['plain', 'as-is'].includes(String(values.environment))) usageError('--environment is plain or as-is');
-if (!(Number(values.rounds) >= 1)) usageError('--rounds is a number from 1');
-if (folders.length === 0) usageError('which directories?');
-for (const it of folders) if (!isFolder(it)) usageError(`no directory ${it}`);
-if (!existsSync(String(values.symq))) usageError(`no program ${values.symq}: \`make symq\` builds it, --symq FILE names it`);
+if (!['plain', 'as-is'].includes(String(values.environment))) usageError(USAGE, '--environment is plain or as-is');
+if (!(Number(values.rounds) >= 1)) usageError(USAGE, '--rounds is a number from 1');
+if (folders.length === 0) usageError(USAGE, 'which directories?');
+for (const it of folders) if (!isFolder(it)) usageError(USAGE, `no directory ${it}`);
+needSymq(USAGE, String(values.symq));
 if (values.ask === 'checker') console.log(JSON.stringify(askChecker(folders[0])));
 else if (values.ask) console.log(JSON.stringify(await askSymdir(folders[0], String(values.symq))));
 else for (const it of folders) compare(it, Number(values.rounds), String(values.symq));
