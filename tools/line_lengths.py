@@ -10,6 +10,7 @@ import os
 import re
 import sys
 
+from tested import report
 from wrong.crates import TOP, files_below, libraries_of
 
 MOST, CLAUSE = {'.rt': 120, '.antt': 160}, 100
@@ -45,11 +46,7 @@ def checked(top):
 
 
 def main(argv):
-    passed, lines = checked(os.path.abspath(argv[0] if argv else TOP))
-    for line in lines:
-        print(line)
-    print('%d passed, %d failed' % (passed, len(lines)))
-    return 1 if lines else 0
+    return report(*checked(os.path.abspath(argv[0] if argv else TOP)))
 
 
 if __name__ == '__main__':

@@ -1,4 +1,12 @@
-"""Shared code of the tests of the tools: their report."""
+"""Shared code of checks and of the tests of the tools: their report."""
+
+
+def report(passed, lines):
+    """Prints a line for each fault, and the counts. Returns the status."""
+    for line in lines:
+        print(line)
+    print('%d passed, %d failed' % (passed, len(lines)))
+    return 1 if lines else 0
 
 
 def told(tests):

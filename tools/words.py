@@ -15,6 +15,7 @@ import os
 import re
 import sys
 
+from tested import report
 from wrong.crates import TOP, files_below, libraries_of, read
 
 ROWS = 40
@@ -111,11 +112,7 @@ def main(argv):
         for name, crates in sorted(left(listed(top)[0], identifiers(top))[0].items()):
             print('%s\t%s' % (name, ' '.join(sorted(crates))))
         return 0
-    passed, lines = told(top)
-    for line in lines:
-        print(line)
-    print('%d passed, %d failed' % (passed, len(lines)))
-    return 1 if lines else 0
+    return report(*told(top))
 
 
 if __name__ == '__main__':
