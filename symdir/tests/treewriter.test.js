@@ -79,6 +79,21 @@ test('a tree of several pieces, with a text that is longer than one, whose memor
   assert.ok(counted < 1_500_000 && text.length > 7_000_000, `${counted} of ${text.length}`);
 });
 
+test('a long text\'s tree stands once, in memory that threads share, with what is before and behind it; where that doesn\'t fit it is copied', () => {
+  const items = (/** @type {number} */ count) => Array.from({ length: count }, (_, i) => new TreeNode('ExprStmt', i, i + 9, { expr: new TreeNode('Ident', i, i, { sym: [`n${i}`, 1] }) }));
+  const made = (/** @type {number} */ count, /** @type {string} */ before) => {
+    const text = new TreeText(1_000_000);
+    for (const it of items(count)) put(text, it);
+    const program = new TreeNode('Program', 0, 1, {});
+    const wanted = `${before}é${Buffer.concat(text.whole(program))}}`;
+    const found = text.between(program, [before, 'é'], '}');
+    assert.ok(found.toString() === wanted);
+    return found.buffer instanceof ArrayBuffer;
+  };
+  assert.deepEqual([made(1000, 'x'), made(1000, 'x'.repeat(7_900_000)), made(0, '')], [false, false, false]);
+  assert.deepEqual([made(1000, 'x'.repeat(8_000_000)), made(150_000, 'x')], [true, true]);
+});
+
 test('a deep tree that is made item by item: what can go is left out, and it is too deep where nothing can', () => {
   const chain = (/** @type {number} */ depth) => {
     let node = new TreeNode('TsModuleBlock', 0, 1, {});

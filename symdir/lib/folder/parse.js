@@ -14,12 +14,11 @@ import { decoded } from './text.js';
 /** @param {Job} job @param {(text: string) => Converted} converted @returns {Parsed} */
 function read({ file, specifier, namespaces = [] }, converted) {
   const bytes = readFileSync(file);
-  const { text, tree: nodes, free, ...rest } = converted(decoded(bytes));
+  const { text, tree, between, ...rest } = converted(decoded(bytes));
   const kind = file.endsWith('.json') ? 'json' : 'esm';
-  const start = `{"specifier":${JSON.stringify(specifier)},"kind":"${kind}","text":${JSON.stringify(text)}`;
-  const tree = nodes === null ? [] : [Buffer.from(`,"tree":{${languageOf(file).declaration ? '"declaration":true,' : ''}"nodes":`), ...nodes, Buffer.from('}')];
-  const whole = Buffer.concat([Buffer.from(start), ...tree]);
-  free();
+  const before = [`{"specifier":${JSON.stringify(specifier)},"kind":"${kind}","text":`, JSON.stringify(text)];
+  if (tree !== null) before.push(`,"tree":{${languageOf(file).declaration ? '"declaration":true,' : ''}"nodes":`);
+  const whole = between(before, tree === null ? '' : '}');
   return { hash: hashOf(bytes), text: whole, namespaces, ...rest };
 }
 

@@ -27,8 +27,8 @@ function answer(job) {
   try {
     const made = parsed(job);
     const { buffer } = made.text;
-    // a small text stands in memory that Node shares with others, and is copied
-    port.postMessage({ file, made }, buffer.byteLength === made.text.byteLength ? [/** @type {ArrayBuffer} */ (buffer)] : []);
+    // a small text stands in memory that Node shares with others, and is copied; that of a huge one threads share
+    port.postMessage({ file, made }, buffer instanceof ArrayBuffer && buffer.byteLength === made.text.byteLength ? [buffer] : []);
   } catch (error) {
     port.postMessage({ file, error: reasonOf(error) });
   }

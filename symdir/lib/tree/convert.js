@@ -23,7 +23,7 @@ import { wellFormed } from './offsets.js';
  * @typedef {object} Converted
  * @property {string} text well formed
  * @property {Buffer[] | null} tree the JSON text of the tree's nodes, in pieces; null where there is none
- * @property {() => void} free has the memory of these used for another tree, once they are copied
+ * @property {(before: string[], behind: string) => Buffer} between that text between others, once: its memory may be used for another tree then
  * @property {number} nodes how many there are
  * @property {Fault | null} fault why there is none
  * @property {import('./converter.js').Reference[]} references
@@ -104,25 +104,31 @@ function specify(c, { exportClause: clause }) {
   for (const it of clause.elements) c.specified.add(moduleName(c, it.propertyName ?? it.name));
 }
 
-/** @param {Converter} c @param {(item: Made) => void} add is given each item of the module, in order, when it is made, and is there for that long alone */
+/** @param {readonly unknown[]} list @param {number} i of what is converted, and which isn't looked through again then for what is garbage */
+function letGo(list, i) {
+  /** @type {unknown[]} */ (list)[i] = null;
+}
+
+/** @param {Converter} c @param {(item: Made) => void} add is given each item of the module, in order, when it is made, and is there for that long alone, as is its statement */
 function items(c, add) {
   const list = c.file.statements;
   hoistBody(list, c.scope);
   const isAmbient = c.options.ambient && c.options.declaration && exportsAll(c.file);
   if (!c.options.ambient && c.options.declaration && exportsAll(c.file)) c.implicit = list.flatMap(declaredNames);
   for (const it of list) if (ts.isExportDeclaration(it) && !it.moduleSpecifier) specify(c, it);
-  c.exporting(isAmbient, () => list.forEach((it) => {
+  c.exporting(isAmbient, () => list.forEach((it, i) => {
     const made = item(c, it, isAmbient);
     if (Array.isArray(made)) made.forEach(add);
     else add(made);
     c.nodes.clear();
+    letGo(list, i);
   }));
 }
 
-/** @param {Converter} c @param {Record<string, import('./node.js').Field>} [fields] @returns {TreeNode} */
-function program(c, fields = {}) {
+/** @param {Converter} c before its statements are converted @returns {{ start: number, end: number }} where they stand */
+function rangeOf(c) {
   const list = c.file.statements;
-  return list.length === 0 ? new TreeNode('Program', 0, 0, {}) : new TreeNode('Program', c.byte(c.start(list[0])), c.byte(list[list.length - 1].end), fields);
+  return list.length === 0 ? { start: 0, end: 0 } : { start: c.byte(c.start(list[0])), end: c.byte(list[list.length - 1].end) };
 }
 
 /** @param {import('typescript').SourceFile} file @param {number} at @param {string} text @returns {Fault} */
@@ -149,10 +155,10 @@ function faultOf(c, isDeep) {
   return isDeep ? TOO_DEEP : null;
 }
 
-/** @param {Converter} c that has converted the text @returns what it noted on the way */
-function notedBy(c) {
+/** @param {Converter} c that has converted the text @param {number} start of its first statement @returns what it noted on the way */
+function notedBy(c, start) {
   const { references, declarations, implicit, equals, modules, blocks } = c;
-  return { references, declarations, implicit, equals, modules, isScript: !ts.isExternalModule(c.file), blocks, start: program(c).start };
+  return { references, declarations, implicit, equals, modules, isScript: !ts.isExternalModule(c.file), blocks, start };
 }
 
 /**
@@ -164,17 +170,18 @@ function notedBy(c) {
 export function nodesOf(name, source, options) {
   const { text, fault, c } = begun(name, source, options);
   if (!c) return { text, fault, nodes: null, ...NOTHING };
+  const { start, end } = rangeOf(c);
   /** @type {TreeNode[]} */
   const body = [];
   items(c, (it) => body.push(c.nodes.tree(it)));
   if (c.unnamed !== null) return { text, fault: faultOf(c, false), nodes: null, ...NOTHING };
-  const nodes = numbered(program(c, { body }));
-  return { text, nodes, fault: faultOf(c, nodes === null), ...notedBy(c) };
+  const nodes = numbered(new TreeNode('Program', start, end, body.length > 0 ? { body } : {}));
+  return { text, nodes, fault: faultOf(c, nodes === null), ...notedBy(c, start) };
 }
 
 /** @param {string} text @param {Fault | null} fault @returns {Converted} what is known where there is no tree */
 export function withoutTree(text, fault) {
-  return { text: wellFormed(text), tree: null, free: () => {}, nodes: 0, fault, ...NOTHING };
+  return { text: wellFormed(text), tree: null, between: (before, behind) => Buffer.from([...before, behind].join('')), nodes: 0, fault, ...NOTHING };
 }
 
 /**
@@ -188,9 +195,12 @@ export function withoutTree(text, fault) {
 export function convert(name, source, options) {
   const { text, fault: first, c } = begun(name, source, options);
   if (!c) return withoutTree(text, first);
-  const made = new TreeText();
+  const range = rangeOf(c);
+  const made = new TreeText(text.length);
   items(c, (it) => made.add(c.nodes, it));
   const fault = faultOf(c, made.isTooDeep);
   if (c.unnamed !== null) return withoutTree(text, fault);
-  return { text, tree: fault ? null : made.whole(program(c)), free: () => made.free(), nodes: fault ? 0 : made.count, fault, ...notedBy(c) };
+  const noted = notedBy(c, range.start);
+  if (fault) return { ...withoutTree(text, fault), ...noted };
+  return { text, tree: made.whole(range), between: (before, behind) => made.between(range, before, behind), nodes: made.count, fault, ...noted };
 }

@@ -59,7 +59,7 @@ export class Converter {
     this.marks = marks;
     this.options = options;
     this.byte = byteOffsets(text);
-    this.nodes = new Nodes();
+    this.nodes = new Nodes(text.length);
     this.scope = new Scope(MODULE_SCOPE, null);
     this.scopes = MODULE_SCOPE;
     this.bodyScopes = BODY_SCOPES;
@@ -136,6 +136,22 @@ export class Converter {
     const { nodes } = this;
     const made = nodes.begin(form, this.byte(this.start(node)), this.byte(node.end));
     if (children.length > 0) nodes.list(CHILDREN, children);
+    return nodes.end(made);
+  }
+
+  /** @param {import('./nodes.js').Form} form @param {Node} node @param {number} name of its one field @param {string} value */
+  text(form, node, name, value) {
+    const { nodes } = this;
+    const made = nodes.begin(form, this.byte(this.start(node)), this.byte(node.end));
+    nodes.text(name, value);
+    return nodes.end(made);
+  }
+
+  /** @param {import('./nodes.js').Form} form @param {Node} node that is a name @param {string} text @param {number} scope */
+  symbol(form, node, text, scope) {
+    const { nodes } = this;
+    const made = nodes.begin(form, this.byte(this.start(node)), this.byte(node.end));
+    nodes.symbol(SYM, text, scope);
     return nodes.end(made);
   }
 

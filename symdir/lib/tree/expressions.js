@@ -11,19 +11,24 @@ import { hoistFunction } from './scopes.js';
 /** @typedef {import('./nodes.js').Made} Made */
 /** @typedef {import('typescript').Expression} Expression */
 
+const { isArrayLiteralExpression, isAsExpression, isBinaryExpression, isElementAccessExpression, isIdentifier, isJsxElement, isJsxExpression,
+  isJsxSpreadAttribute, isJsxText, isMethodDeclaration, isObjectLiteralExpression, isPrivateIdentifier, isPropertyAccessExpression,
+  isPropertyAssignment, isSetAccessor, isShorthandPropertyAssignment, isSpreadAssignment, isSpreadElement, isStringLiteralLike,
+  isTypeReferenceNode } = ts;
+
 /** A chain of more operators than this is kept flat, since it leans to the left and a node's depth has a limit. */
 const LONG_CHAIN = 64;
 
 /** @param {import('typescript').TypeNode} node @returns {boolean} whether it is the `const` of `as const` */
 function isConst(node) {
-  return ts.isTypeReferenceNode(node) && ts.isIdentifier(node.typeName) && textOf(node.typeName) === 'const' && !node.typeArguments;
+  return isTypeReferenceNode(node) && isIdentifier(node.typeName) && textOf(node.typeName) === 'const' && !node.typeArguments;
 }
 
 /** @param {Converter} c @param {import('typescript').AsExpression | import('typescript').TypeAssertion} node */
 function assertion(c, node) {
   const inner = expression(c, node.expression);
   if (isConst(node.type)) return c.other(node, [inner]);
-  if (ts.isAsExpression(node)) {
+  if (isAsExpression(node)) {
     if (c.marks?.satisfies.has(skipSpace(c, node.expression.end))) return c.other(node, [inner, type(c, node.type)]);
     return c.node('TsAsExpr', node, { expr: inner, ty: type(c, node.type) });
   }
@@ -35,9 +40,9 @@ function call(c, node) {
   const parts = [];
   const [first] = node.arguments ?? [];
   if (node.expression.kind === K.ImportKeyword) {
-    if (first && ts.isStringLiteralLike(first)) c.refers('import()', first, node);
+    if (first && isStringLiteralLike(first)) c.refers('import()', first, node);
   } else if (node.expression.kind !== K.SuperKeyword) parts.push(expression(c, node.expression));
-  for (const it of node.arguments ?? []) parts.push(expression(c, ts.isSpreadElement(it) ? it.expression : it));
+  for (const it of node.arguments ?? []) parts.push(expression(c, isSpreadElement(it) ? it.expression : it));
   return c.other(node, [...parts, typeArguments(c, node.typeArguments)]);
 }
 
@@ -45,7 +50,7 @@ function call(c, node) {
 function object(c, node) {
   const parts = [];
   for (const it of node.properties) {
-    if (ts.isPropertyAssignment(it)) parts.push(key(c, it.name), expression(c, it.initializer));
+    if (isPropertyAssignment(it)) parts.push(key(c, it.name), expression(c, it.initializer));
     else parts.push(...objectProperty(c, it));
   }
   return c.other(node, parts);
@@ -53,15 +58,15 @@ function object(c, node) {
 
 /** @param {Converter} c @param {Exclude<import('typescript').ObjectLiteralElementLike, import('typescript').PropertyAssignment>} it @returns {Made[]} */
 function objectProperty(c, it) {
-  if (ts.isShorthandPropertyAssignment(it)) {
+  if (isShorthandPropertyAssignment(it)) {
     const value = it.objectAssignmentInitializer;
     return value ? [c.ident(it.name), expression(c, value)] : [c.ident(it.name)];
   }
-  if (ts.isSpreadAssignment(it)) return [expression(c, it.expression)];
-  if (ts.isMethodDeclaration(it)) return [c.other(it, [key(c, it.name), functionNode(c, it, c.start(it), it.end)])];
+  if (isSpreadAssignment(it)) return [expression(c, it.expression)];
+  if (isMethodDeclaration(it)) return [c.other(it, [key(c, it.name), functionNode(c, it, c.start(it), it.end)])];
   return [c.within((scope) => hoistFunction(it, scope), () => c.other(it, [
     key(c, it.name),
-    ...(ts.isSetAccessor(it) ? parameters(c, it.parameters) : [annotationOf(c, it.type)]),
+    ...(isSetAccessor(it) ? parameters(c, it.parameters) : [annotationOf(c, it.type)]),
     it.body && body(c, it.body),
   ]))];
 }
@@ -77,8 +82,8 @@ function brackets(c, node) {
 function member(c, node) {
   const isOptional = node.questionDotToken !== undefined || (node.flags & ts.NodeFlags.OptionalChain) !== 0;
   let prop;
-  if (ts.isElementAccessExpression(node)) prop = brackets(c, node);
-  else prop = ts.isPrivateIdentifier(node.name) ? privateName(c, node.name) : plainName(c, node.name);
+  if (isElementAccessExpression(node)) prop = brackets(c, node);
+  else prop = isPrivateIdentifier(node.name) ? privateName(c, node.name) : plainName(c, node.name);
   if (node.expression.kind === K.SuperKeyword) return c.other(node, [prop]);
   const made = c.node('Member', node, { obj: expression(c, node.expression), prop });
   return isOptional ? c.other(node, [made]) : made;
@@ -86,7 +91,7 @@ function member(c, node) {
 
 /** @param {import('typescript').Node} node @returns {node is import('typescript').BinaryExpression} */
 function isOperation(node) {
-  return ts.isBinaryExpression(node) && !isAssignment(node.operatorToken.kind);
+  return isBinaryExpression(node) && !isAssignment(node.operatorToken.kind);
 }
 
 /** @param {number} operator */
@@ -99,8 +104,8 @@ function assignment(c, node) {
   const plain = node.operatorToken.kind === K.EqualsToken;
   const { left: to } = node;
   let left;
-  if (ts.isIdentifier(to)) left = assignedName(c, to);
-  else if (plain && (ts.isObjectLiteralExpression(to) || ts.isArrayLiteralExpression(to))) left = c.other(to, targetParts(c, to));
+  if (isIdentifier(to)) left = assignedName(c, to);
+  else if (plain && (isObjectLiteralExpression(to) || isArrayLiteralExpression(to))) left = c.other(to, targetParts(c, to));
   else left = expression(c, to);
   return c.node('Assign', node, { plain, left, right: expression(c, node.right) });
 }
@@ -120,7 +125,7 @@ function binary(c, node) {
 function jsxAttributes(c, attributes) {
   const parts = [];
   for (const it of attributes.properties) {
-    if (ts.isJsxSpreadAttribute(it)) parts.push(expression(c, it.expression));
+    if (isJsxSpreadAttribute(it)) parts.push(expression(c, it.expression));
     else if (it.initializer) parts.push(jsxChild(c, it.initializer));
   }
   return parts;
@@ -128,20 +133,20 @@ function jsxAttributes(c, attributes) {
 
 /** @param {Converter} c @param {import('typescript').Node} it @returns {Made | null} */
 function jsxChild(c, it) {
-  if (ts.isJsxExpression(it)) return it.expression ? expression(c, it.expression) : null;
-  return ts.isJsxText(it) ? null : expression(c, /** @type {Expression} */ (it));
+  if (isJsxExpression(it)) return it.expression ? expression(c, it.expression) : null;
+  return isJsxText(it) ? null : expression(c, /** @type {Expression} */ (it));
 }
 
 /** @param {Converter} c @param {import('typescript').JsxOpeningLikeElement} node */
 function jsxTag(c, node) {
   const name = /** @type {import('typescript').Node} */ (node.tagName);
-  const tag = ts.isIdentifier(name) || ts.isPropertyAccessExpression(name) ? expression(c, name) : null;
+  const tag = isIdentifier(name) || isPropertyAccessExpression(name) ? expression(c, name) : null;
   return [tag, typeArguments(c, node.typeArguments), ...jsxAttributes(c, node.attributes)];
 }
 
 /** @param {Converter} c @param {import('typescript').JsxElement | import('typescript').JsxFragment} node */
 function jsx(c, node) {
-  const tag = ts.isJsxElement(node) ? jsxTag(c, node.openingElement) : [];
+  const tag = isJsxElement(node) ? jsxTag(c, node.openingElement) : [];
   return c.other(node, [...tag, ...node.children.map((it) => jsxChild(c, it))]);
 }
 
@@ -158,7 +163,7 @@ function unary(c, node) {
 /** @param {Converter} c @param {import('typescript').ArrayLiteralExpression | import('typescript').CommaListExpression} node */
 function list(c, node) {
   const parts = [];
-  for (const it of node.elements) if (it.kind !== K.OmittedExpression) parts.push(expression(c, ts.isSpreadElement(it) ? it.expression : it));
+  for (const it of node.elements) if (it.kind !== K.OmittedExpression) parts.push(expression(c, isSpreadElement(it) ? it.expression : it));
   return c.other(node, parts);
 }
 

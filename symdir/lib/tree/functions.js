@@ -11,6 +11,8 @@ import { referencesIn } from './references.js';
 /** @typedef {import('./converter.js').Converter} Converter */
 /** @typedef {import('./nodes.js').Made} Made */
 
+const { isBlock, isClassExpression, isDecorator, isGetAccessor, isIdentifier, isPrivateIdentifier, isSetAccessor } = ts;
+
 /** @param {Converter} c @param {import('typescript').Block} node of a function, whose scope is open */
 export function body(c, node) {
   if (c.options.bodies) return c.inBody(() => c.other(node, statements(c, node.statements)));
@@ -24,12 +26,15 @@ export function body(c, node) {
  * @param {number} start @param {number} end
  */
 export function functionNode(c, node, start, end) {
-  return c.within((scope) => hoistFunction(node, scope), () => c.at('Function', start, end, {
+  hoistFunction(node, c.open());
+  const made = c.at('Function', start, end, {
     type_params: typeParametersOf(c, node.typeParameters),
     params: parameters(c, node.parameters),
     return_type: annotationOf(c, node.type),
     body: node.body ? body(c, /** @type {import('typescript').Block} */ (node.body)) : null,
-  }));
+  });
+  c.close();
+  return made;
 }
 
 /** @param {Converter} c @param {import('typescript').FunctionExpression} node */
@@ -44,18 +49,19 @@ export function functionExpression(c, node) {
 
 /** @param {Converter} c @param {import('typescript').ArrowFunction} node */
 export function arrow(c, node) {
-  const block = ts.isBlock(node.body);
+  const block = isBlock(node.body);
   return c.typed(false, () => c.within((scope) => hoistFunction(node, scope), () => c.node('Arrow', node, {
     type_params: typeParametersOf(c, node.typeParameters),
     params: parameters(c, node.parameters),
     return_type: annotationOf(c, node.type),
     is_block: block,
-    body: ts.isBlock(node.body) ? body(c, node.body) : expression(c, node.body),
+    body: isBlock(node.body) ? body(c, node.body) : expression(c, node.body),
   })));
 }
 
 /** @param {import('typescript').Node} member @returns {'public' | 'protected' | 'private' | null} */
 function accessibility(member) {
+  if (modifiersOf(member).length === 0) return null;
   if (hasModifier(member, K.PublicKeyword)) return 'public';
   if (hasModifier(member, K.ProtectedKeyword)) return 'protected';
   return hasModifier(member, K.PrivateKeyword) ? 'private' : null;
@@ -97,36 +103,37 @@ function memberWithDecorators(c, member, parts) {
  */
 export function classParts(c, node, start, end) {
   const parts = decoratorsOf(node).map((it) => decorator(c, it));
-  return c.within((scope) => {
-    hoistTypeParameters(node, scope);
-    if (ts.isClassExpression(node) && node.name) scope.add(textOf(node.name));
-  }, () => {
-    const ident = node.name ? c.ident(node.name, false) : null;
-    const type_params = typeParametersOf(c, node.typeParameters);
-    const above = heritageOf(c, node);
-    for (const it of node.members) memberWithDecorators(c, it, parts);
-    return { ident, class: c.at('Class', start, end, { type_params, ...above, body: parts }) };
-  });
+  const scope = c.open();
+  hoistTypeParameters(node, scope);
+  if (isClassExpression(node) && node.name) scope.add(textOf(node.name));
+  const ident = node.name ? c.ident(node.name, false) : null;
+  const type_params = typeParametersOf(c, node.typeParameters);
+  const { super_class, super_type_params, implements: all } = heritageOf(c, node);
+  for (const it of node.members) memberWithDecorators(c, it, parts);
+  c.close();
+  return { ident, class: c.at('Class', start, end, { type_params, super_class, super_type_params, implements: all, body: parts }) };
 }
 
 /** @param {Converter} c @param {import('typescript').ConstructorDeclaration} m */
 function constructorNode(c, m) {
-  const made = c.within((scope) => hoistFunction(m, scope), () => c.node('Constructor', m, {
+  hoistFunction(m, c.open());
+  const made = c.node('Constructor', m, {
     params: m.parameters.map((it) => constructorParameter(c, it)),
     body: m.body ? body(c, m.body) : null,
     accessibility: accessibility(m),
-  }));
+  });
+  c.close();
   return c.declares('constructor', made, undefined, hasModifier(m, K.PrivateKeyword));
 }
 
 /** @param {import('typescript').ParameterDeclaration} it @returns {boolean} whether it is a property too */
 function isProperty(it) {
-  return modifiersOf(it).some((word) => !ts.isDecorator(word));
+  return modifiersOf(it).some((word) => !isDecorator(word));
 }
 
 /** @param {Converter} c @param {import('typescript').ParameterDeclaration} it */
 function constructorParameter(c, it) {
-  if (!isProperty(it) || !ts.isIdentifier(it.name) || it.dotDotDotToken) return parameter(c, it);
+  if (!isProperty(it) || !isIdentifier(it.name) || it.dotDotDotToken) return parameter(c, it);
   const access = accessibility(it);
   return c.declares('parameter', c.node('TsParamProp', it, { param: parameter(c, it), accessibility: access }), it.name, access === 'private');
 }
@@ -135,8 +142,8 @@ function constructorParameter(c, it) {
 function method(c, m) {
   const name = key(c, m.name);
   const made = functionNode(c, m, c.start(m), m.end);
-  if (ts.isPrivateIdentifier(m.name)) return c.other(m, [name, made]);
-  const kind = ts.isGetAccessor(m) ? 'getter' : ts.isSetAccessor(m) ? 'setter' : 'method';
+  if (isPrivateIdentifier(m.name)) return c.other(m, [name, made]);
+  const kind = isGetAccessor(m) ? 'getter' : isSetAccessor(m) ? 'setter' : 'method';
   const access = accessibility(m);
   return c.declares(kind, c.node('ClassMethod', m, {
     key: name, function: made, method_kind: kind, is_static: hasModifier(m, K.StaticKeyword), accessibility: access,
@@ -153,7 +160,7 @@ function propertyNode(c, m) {
   const name = key(c, m.name);
   const type_ann = annotationOf(c, m.type);
   const value = m.initializer ? expression(c, m.initializer) : null;
-  const isHidden = ts.isPrivateIdentifier(m.name);
+  const isHidden = isPrivateIdentifier(m.name);
   if (isHidden && !isAccessor) return c.other(m, [name, type_ann, value]);
   const access = accessibility(m);
   const fields = { key: name, type_ann, value, is_static: hasModifier(m, K.StaticKeyword), accessibility: access };

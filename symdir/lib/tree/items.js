@@ -10,6 +10,10 @@ import { declaration, interfaceNode, statement } from './statements.js';
 /** @typedef {import('./converter.js').Converter} Converter */
 /** @typedef {import('./nodes.js').Made} Made */
 
+const { isClassDeclaration, isDecorator, isEnumDeclaration, isExternalModuleReference, isFunctionDeclaration, isIdentifier,
+  isInterfaceDeclaration, isModuleDeclaration, isNamespaceExport, isNamespaceImport, isPropertyAccessExpression, isStringLiteral,
+  isTypeAliasDeclaration, isVariableStatement } = ts;
+
 /** @param {Converter} c @param {import('typescript').Identifier} local @param {string} name @param {import('typescript').Node} node */
 function takesLocal(c, local, name, node) {
   const [text, scope] = c.symbolName(local, false);
@@ -24,7 +28,7 @@ function takesLocal(c, local, name, node) {
  * @returns {string}
  */
 function sourceOf(c, how, from, it) {
-  if (!ts.isStringLiteral(from)) c.unnamed ??= c.start(from);
+  if (!isStringLiteral(from)) c.unnamed ??= c.start(from);
   return c.refers(how, /** @type {import('typescript').StringLiteral} */ (from), it);
 }
 
@@ -38,7 +42,7 @@ function importNode(c, it) {
     specifiers.push(c.node('ImportDefault', clause.name, { local: c.ident(clause.name) }));
   }
   const bindings = clause?.namedBindings;
-  if (bindings && ts.isNamespaceImport(bindings)) {
+  if (bindings && isNamespaceImport(bindings)) {
     takesLocal(c, bindings.name, '*', bindings);
     specifiers.push(c.declares('namespace', c.node('ImportNamespace', bindings, { local: c.ident(bindings.name) }), bindings.name));
   } else if (bindings) {
@@ -65,7 +69,7 @@ function exportSpecifier(c, it, hasSource) {
   const name = /** @type {import('typescript').Node} */ (it.propertyName ?? it.name);
   const text = moduleName(c, name);
   if (hasSource) c.takes(text, moduleName(c, it.name), 0, name);
-  const isString = !ts.isIdentifier(name) || c.stringAt(name) !== undefined;
+  const isString = !isIdentifier(name) || c.stringAt(name) !== undefined;
   /** @type {[string, number]} */
   const sym = hasSource || isString ? /** @type {[string, number]} */ ([text, MODULE_SCOPE]) : exportedName(c, name);
   const orig = isString ? c.node('Str', name, { value: text }) : c.node('Ident', name, { sym });
@@ -78,7 +82,7 @@ function exportNode(c, it) {
   const clause = it.exportClause;
   const src = from ? sourceOf(c, clause ? 'export' : 'export *', from, it) : null;
   if (!clause) return c.node('ExportAll', it, { src, type_only: it.isTypeOnly });
-  if (ts.isNamespaceExport(clause)) {
+  if (isNamespaceExport(clause)) {
     const name = moduleName(c, clause.name);
     c.takes('*', name, 0, clause);
     const all = c.declares('namespace', c.node('ExportNamespace', clause, { name }), clause.name);
@@ -92,8 +96,8 @@ function exportNode(c, it) {
 function dottedParts(node) {
   const parts = [];
   let it = node;
-  for (; ts.isPropertyAccessExpression(it); it = it.expression) parts.push(textOf(it.name));
-  return ts.isIdentifier(it) ? [...parts, textOf(it)].reverse() : [];
+  for (; isPropertyAccessExpression(it); it = it.expression) parts.push(textOf(it.name));
+  return isIdentifier(it) ? [...parts, textOf(it)].reverse() : [];
 }
 
 /** @param {Converter} c @param {import('typescript').ExportAssignment} it */
@@ -115,8 +119,8 @@ function requiredNamespace(c, it, src) {
 function importEquals(c, it) {
   const from = it.moduleReference;
   const fields = { is_export: hasModifier(it, K.ExportKeyword), id: c.ident(it.name, false), type_only: it.isTypeOnly };
-  if (!ts.isExternalModuleReference(from)) return c.node('TsImportEqualsDecl', it, { ...fields, entity: entity(c, from, false) });
-  if (!ts.isStringLiteral(from.expression)) return c.other(it, []);
+  if (!isExternalModuleReference(from)) return c.node('TsImportEqualsDecl', it, { ...fields, entity: entity(c, from, false) });
+  if (!isStringLiteral(from.expression)) return c.other(it, []);
   const external = c.refers('require', from.expression, it);
   takesLocal(c, it.name, '*', it);
   if (c.scope.above === null && c.options.namespaces?.includes(external)) return requiredNamespace(c, it, external);
@@ -127,7 +131,7 @@ function importEquals(c, it) {
 function exportStarts(c, it) {
   const all = modifiersOf(it);
   if (all.length === 1) return [c.start(all[0]), skipSpace(c, all[0].end)];
-  const words = all.filter((word) => !ts.isDecorator(word));
+  const words = all.filter((word) => !isDecorator(word));
   const at = words.findIndex((word) => word.kind === K.ExportKeyword);
   const behind = words.slice(at + 1).filter((word, i) => i > 0 || word.kind !== K.DefaultKeyword);
   const start = behind.length > 0 ? c.start(behind[0]) : skipSpace(c, words[words.length - 1].end);
@@ -136,11 +140,11 @@ function exportStarts(c, it) {
 
 /** @param {Converter} c @param {any} it a class, a function or an interface behind `export default` @param {number} start */
 function defaultDeclaration(c, it, start) {
-  if (ts.isFunctionDeclaration(it)) {
+  if (isFunctionDeclaration(it)) {
     const ident = it.name ? c.ident(it.name, false) : null;
     return c.declares('function', c.at('FnExpr', start, it.end, { ident, function: functionNode(c, it, start, it.end) }), it.name, false, true);
   }
-  if (ts.isClassDeclaration(it)) return c.declares('class', c.at('ClassExpr', start, it.end, classParts(c, it, start, it.end)), it.name, false, true);
+  if (isClassDeclaration(it)) return c.declares('class', c.at('ClassExpr', start, it.end, classParts(c, it, start, it.end)), it.name, false, true);
   return c.declares('interface', interfaceNode(c, it, start), it.name, false, true);
 }
 
@@ -148,12 +152,12 @@ function defaultDeclaration(c, it, start) {
 function exported(c, it) {
   const [start, inner] = exportStarts(c, it);
   const isDefault = hasModifier(it, K.DefaultKeyword);
-  const canBeDefault = ts.isFunctionDeclaration(it) || ts.isClassDeclaration(it) || ts.isInterfaceDeclaration(it);
+  const canBeDefault = isFunctionDeclaration(it) || isClassDeclaration(it) || isInterfaceDeclaration(it);
   const before = c.declarations.length;
   const decl = isDefault && canBeDefault ? defaultDeclaration(c, it, inner) : declaration(c, it, inner);
   if (!decl || c.nodes.kindOf(decl) === 'UsingDecl') return c.other(it, []);
   const made = c.at(isDefault && canBeDefault ? 'ExportDefaultDecl' : 'ExportDecl', start, it.end, { decl });
-  if (c.declarations.length > before && !ts.isVariableStatement(it)) declaresAgain(c, made);
+  if (c.declarations.length > before && !isVariableStatement(it)) declaresAgain(c, made);
   return made;
 }
 
@@ -175,9 +179,9 @@ const ITEMS = {
 
 /** @param {import('typescript').Statement} it @returns {boolean} whether it declares a name that may stand behind `export` */
 function isAmbientExport(it) {
-  if (ts.isModuleDeclaration(it)) return ts.isIdentifier(it.name) && (it.flags & ts.NodeFlags.GlobalAugmentation) === 0;
-  return ts.isVariableStatement(it) || ts.isFunctionDeclaration(it) || ts.isClassDeclaration(it) || ts.isInterfaceDeclaration(it)
-    || ts.isTypeAliasDeclaration(it) || ts.isEnumDeclaration(it);
+  if (isModuleDeclaration(it)) return isIdentifier(it.name) && (it.flags & ts.NodeFlags.GlobalAugmentation) === 0;
+  return isVariableStatement(it) || isFunctionDeclaration(it) || isClassDeclaration(it) || isInterfaceDeclaration(it)
+    || isTypeAliasDeclaration(it) || isEnumDeclaration(it);
 }
 
 /** @param {Converter} c @param {import('typescript').Statement} it @param {boolean} isAmbient whether declarations are exported without a word @returns {Made | Made[]} */

@@ -8,6 +8,9 @@ import { expression } from './expressions.js';
 /** @typedef {import('./converter.js').Converter} Converter */
 /** @typedef {import('./nodes.js').Made} Made */
 
+const { isArrayLiteralExpression, isBinaryExpression, isBindingElement, isIdentifier, isObjectBindingPattern, isObjectLiteralExpression,
+  isPropertyAssignment, isShorthandPropertyAssignment, isSpreadAssignment, isSpreadElement } = ts;
+
 const BINDING_IDENT = formOf('BindingIdent');
 
 /**
@@ -18,12 +21,12 @@ const BINDING_IDENT = formOf('BindingIdent');
  */
 export function binding(c, name, type) {
   const type_ann = annotationOf(c, type);
-  if (ts.isIdentifier(name)) return c.named(BINDING_IDENT, name, false, type_ann);
+  if (isIdentifier(name)) return c.named(BINDING_IDENT, name, false, type_ann);
   const end = type ? type.end : name.end;
-  if (ts.isObjectBindingPattern(name)) {
+  if (isObjectBindingPattern(name)) {
     return c.at('ObjectPat', c.start(name), end, { props: name.elements.map((it) => property(c, it)), type_ann });
   }
-  const elems = name.elements.filter(ts.isBindingElement).map((it) => element(c, it));
+  const elems = name.elements.filter(isBindingElement).map((it) => element(c, it));
   return c.at('ArrayPat', c.start(name), end, { elems, type_ann });
 }
 
@@ -64,31 +67,31 @@ export function assignedName(c, node) {
 
 /** @param {Converter} c @param {import('typescript').ObjectLiteralElementLike} it */
 function targetProperty(c, it) {
-  if (ts.isShorthandPropertyAssignment(it)) {
+  if (isShorthandPropertyAssignment(it)) {
     const value = it.objectAssignmentInitializer;
     return c.node('AssignPatProp', it, { key: assignedName(c, it.name), value: value ? expression(c, value) : null });
   }
-  if (ts.isPropertyAssignment(it)) return c.node('KeyValuePatProp', it, { key: key(c, it.name), value: target(c, it.initializer) });
-  if (ts.isSpreadAssignment(it)) return c.node('RestPat', it, { arg: target(c, it.expression) });
+  if (isPropertyAssignment(it)) return c.node('KeyValuePatProp', it, { key: key(c, it.name), value: target(c, it.initializer) });
+  if (isSpreadAssignment(it)) return c.node('RestPat', it, { arg: target(c, it.expression) });
   return c.other(it, []);
 }
 
 /** @param {Converter} c @param {import('typescript').ObjectLiteralExpression | import('typescript').ArrayLiteralExpression} node */
 export function targetParts(c, node) {
-  if (ts.isObjectLiteralExpression(node)) return node.properties.map((it) => targetProperty(c, it));
+  if (isObjectLiteralExpression(node)) return node.properties.map((it) => targetProperty(c, it));
   return node.elements.filter((it) => it.kind !== K.OmittedExpression).map((it) => target(c, it));
 }
 
 /** @param {Converter} c @param {import('typescript').Expression} it that is assigned to @returns {Made} a pattern */
 export function target(c, it) {
-  if (ts.isIdentifier(it)) return assignedName(c, it);
-  if (ts.isSpreadElement(it)) return c.node('RestPat', it, { arg: target(c, it.expression) });
-  if (ts.isObjectLiteralExpression(it)) {
+  if (isIdentifier(it)) return assignedName(c, it);
+  if (isSpreadElement(it)) return c.node('RestPat', it, { arg: target(c, it.expression) });
+  if (isObjectLiteralExpression(it)) {
     const props = targetParts(c, it);
     return props.some((part) => c.nodes.kindOf(part) === 'Other') ? c.other(it, props) : c.node('ObjectPat', it, { props });
   }
-  if (ts.isArrayLiteralExpression(it)) return c.node('ArrayPat', it, { elems: targetParts(c, it) });
-  if (ts.isBinaryExpression(it) && it.operatorToken.kind === K.EqualsToken) {
+  if (isArrayLiteralExpression(it)) return c.node('ArrayPat', it, { elems: targetParts(c, it) });
+  if (isBinaryExpression(it) && it.operatorToken.kind === K.EqualsToken) {
     return c.node('AssignPat', it, { left: target(c, it.left), right: expression(c, it.right) });
   }
   return c.node('ExprPat', it, { expr: expression(c, it) });

@@ -1,6 +1,9 @@
 // Scopes: which numbers names get, so that two names are one variable where name and number are equal.
 import { K, ts } from './typescript.js';
 
+const { forEachChild, idText, isBindingElement, isBlock, isClassLike, isFunctionLike, isIdentifier, isImportDeclaration, isLabeledStatement,
+  isModuleDeclaration, isNamespaceImport, isVariableDeclarationList, isVariableStatement } = ts;
+
 /** The scope of the module's own names, and of names that no scope declares. */
 export const MODULE_SCOPE = 1;
 
@@ -44,7 +47,7 @@ export class Scope {
 
 /** @param {import('typescript').Identifier | import('typescript').PrivateIdentifier} name of a text that is well formed @returns {string} */
 export function textOf(name) {
-  return ts.idText(name);
+  return idText(name);
 }
 
 /**
@@ -54,14 +57,14 @@ export function textOf(name) {
  */
 export function bindNames(name, set) {
   if (!name) return;
-  if (ts.isIdentifier(name)) set.add(textOf(name));
-  else for (const element of name.elements) if (ts.isBindingElement(element)) bindNames(element.name, set);
+  if (isIdentifier(name)) set.add(textOf(name));
+  else for (const element of name.elements) if (isBindingElement(element)) bindNames(element.name, set);
 }
 
 /** @param {import('typescript').BindingName} name @returns {import('typescript').Identifier[]} what it binds, in the order of the text */
 export function boundIdentifiers(name) {
-  if (ts.isIdentifier(name)) return [name];
-  return name.elements.flatMap((it) => (ts.isBindingElement(it) ? boundIdentifiers(it.name) : []));
+  if (isIdentifier(name)) return [name];
+  return name.elements.flatMap((it) => (isBindingElement(it) ? boundIdentifiers(it.name) : []));
 }
 
 /** @param {import('typescript').VariableDeclarationList} list @param {Scope} scope */
@@ -81,7 +84,7 @@ function hoistImport(statement, scope) {
   if (clause.name) scope.add(textOf(clause.name));
   const bindings = clause.namedBindings;
   if (!bindings) return;
-  if (ts.isNamespaceImport(bindings)) scope.add(textOf(bindings.name));
+  if (isNamespaceImport(bindings)) scope.add(textOf(bindings.name));
   else for (const it of bindings.elements) scope.add(textOf(it.name));
 }
 
@@ -98,7 +101,7 @@ const HOISTING = {
   },
   [K.EnumDeclaration]: (it, scope) => scope.add(textOf(it.name)),
   [K.ModuleDeclaration]: (it, scope) => {
-    if (ts.isIdentifier(it.name)) scope.add(textOf(it.name));
+    if (isIdentifier(it.name)) scope.add(textOf(it.name));
   },
   [K.InterfaceDeclaration]: (it, scope) => scope.types.add(textOf(it.name)),
   [K.TypeAliasDeclaration]: (it, scope) => scope.types.add(textOf(it.name)),
@@ -113,7 +116,7 @@ const HOISTING = {
  */
 export function hoist(statements, scope) {
   for (let it of statements) {
-    while (ts.isLabeledStatement(it)) it = it.statement;
+    while (isLabeledStatement(it)) it = it.statement;
     HOISTING[it.kind]?.(it, scope);
   }
 }
@@ -121,12 +124,14 @@ export function hoist(statements, scope) {
 /** @type {(node: import('typescript').Node) => boolean} */
 const isStatement = /** @type {any} */ (ts).isStatement;
 const HOLDS_STATEMENTS = new Set([K.CaseBlock, K.CaseClause, K.DefaultClause, K.CatchClause]);
-/** Statements in which no other one stands. */
-const PLAIN_STATEMENTS = new Set([K.InterfaceDeclaration, K.TypeAliasDeclaration, K.EnumDeclaration, K.ExpressionStatement, K.ImportDeclaration, K.ExportDeclaration]);
+/** Statements in which no other one of the same scope stands. */
+const PLAIN_STATEMENTS = new Set([
+  K.InterfaceDeclaration, K.TypeAliasDeclaration, K.EnumDeclaration, K.ExpressionStatement, K.ImportDeclaration, K.ExportDeclaration,
+  K.FunctionDeclaration, K.ClassDeclaration, K.ModuleDeclaration]);
 
 /** @param {import('typescript').Node} node @returns {boolean} whether a `var` in it is none of the scope around it */
 function isClosed(node) {
-  return ts.isFunctionLike(node) || ts.isClassLike(node) || ts.isModuleDeclaration(node);
+  return isFunctionLike(node) || isClassLike(node) || isModuleDeclaration(node);
 }
 
 /**
@@ -136,11 +141,11 @@ function isClosed(node) {
  */
 export function hoistVars(node, scope) {
   if (PLAIN_STATEMENTS.has(node.kind) || isClosed(node)) return;
-  if (ts.isVariableStatement(node)) hoistVars(node.declarationList, scope);
-  else if (ts.isVariableDeclarationList(node)) {
+  if (isVariableStatement(node)) hoistVars(node.declarationList, scope);
+  else if (isVariableDeclarationList(node)) {
     if (!isBlockScoped(node)) bindList(node, scope);
-  } else if (ts.isBlock(node) || isStatement(node) || HOLDS_STATEMENTS.has(node.kind)) {
-    ts.forEachChild(node, (it) => hoistVars(it, scope));
+  } else if (isBlock(node) || isStatement(node) || HOLDS_STATEMENTS.has(node.kind)) {
+    forEachChild(node, (it) => hoistVars(it, scope));
   }
 }
 
@@ -158,7 +163,7 @@ export function hoistBody(statements, scope) {
 export function hoistFunction(node, scope) {
   hoistTypeParameters(node, scope);
   for (const it of node.parameters ?? []) bindNames(it.name, scope.values);
-  if (node.body && ts.isBlock(node.body)) hoistBody(node.body.statements, scope);
+  if (node.body && isBlock(node.body)) hoistBody(node.body.statements, scope);
 }
 
 /** @param {{ typeParameters?: readonly import('typescript').TypeParameterDeclaration[] }} node @param {Scope} scope */
@@ -178,5 +183,5 @@ export function declaredNames(it) {
   const scope = new Scope(0, null);
   hoist([it], scope);
   hoistVars(it, scope);
-  return ts.isImportDeclaration(it) ? [] : [...new Set([...scope.values, ...scope.types])];
+  return isImportDeclaration(it) ? [] : [...new Set([...scope.values, ...scope.types])];
 }

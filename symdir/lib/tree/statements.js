@@ -11,6 +11,10 @@ import { item } from './items.js';
 /** @typedef {import('./converter.js').Converter} Converter */
 /** @typedef {import('./nodes.js').Made} Made */
 
+const { isArrayLiteralExpression, isCaseClause, isDoStatement, isExportAssignment, isExportDeclaration, isForStatement, isIdentifier,
+  isImportEqualsDeclaration, isModuleBlock, isModuleDeclaration, isNamedExports, isObjectLiteralExpression, isStringLiteral,
+  isVariableDeclarationList } = ts;
+
 /** Of what stands in a declaration file or behind `declare`, as the parser marks it. */
 const AMBIENT = /** @type {Record<string, any>} */ (ts.NodeFlags).Ambient;
 
@@ -36,20 +40,24 @@ export function variables(c, list, start, end, isExported = false) {
 /** @param {Converter} c @param {import('typescript').InterfaceDeclaration} it @param {number} start */
 export function interfaceNode(c, it, start) {
   const id = c.ident(it.name, true);
-  return c.within((scope) => hoistTypeParameters(it, scope), () => c.at('TsInterfaceDecl', start, it.end, {
+  hoistTypeParameters(it, c.open());
+  const made = c.at('TsInterfaceDecl', start, it.end, {
     id,
     type_params: typeParametersOf(c, it.typeParameters),
-    extends: c.typed(true, () => (it.heritageClauses ?? []).flatMap((clause) => clause.types.map((above) => heritage(c, above)))),
+    extends: it.heritageClauses ? c.typed(true, () => it.heritageClauses?.flatMap((clause) => clause.types.map((above) => heritage(c, above)))) : null,
     body: it.members.map((member) => element(c, member)),
-  }));
+  });
+  c.close();
+  return made;
 }
 
 /** @param {Converter} c @param {import('typescript').TypeAliasDeclaration} it @param {number} start */
 function alias(c, it, start) {
   const id = c.ident(it.name, true);
-  return c.within((scope) => hoistTypeParameters(it, scope), () => c.at('TsTypeAliasDecl', start, it.end, {
-    id, type_params: typeParametersOf(c, it.typeParameters), type_ann: type(c, it.type),
-  }));
+  hoistTypeParameters(it, c.open());
+  const made = c.at('TsTypeAliasDecl', start, it.end, { id, type_params: typeParametersOf(c, it.typeParameters), type_ann: type(c, it.type) });
+  c.close();
+  return made;
 }
 
 /** @param {Converter} c @param {import('typescript').EnumDeclaration} it @param {number} start */
@@ -57,8 +65,8 @@ function enumNode(c, it, start) {
   const id = c.ident(it.name, false);
   return c.within((scope) => {
     for (const { name } of it.members) {
-      if (ts.isIdentifier(name)) scope.values.add(textOf(name));
-      else if (ts.isStringLiteral(name)) scope.values.add(name.text);
+      if (isIdentifier(name)) scope.values.add(textOf(name));
+      else if (isStringLiteral(name)) scope.values.add(name.text);
     }
   }, () => c.at('TsEnumDecl', start, it.end, {
     id, members: it.members.map((m) => c.node('TsEnumMember', m, { init: m.initializer ? expression(c, m.initializer) : null })),
@@ -67,11 +75,11 @@ function enumNode(c, it, start) {
 
 /** @param {Converter} c @param {import('typescript').ModuleDeclaration} it @param {number} start */
 function namespace(c, it, start) {
-  if (ts.isStringLiteral(it.name)) c.modules.push(it.name.text);
-  const id = ts.isStringLiteral(it.name) ? string(c, it.name) : c.ident(it.name, false);
+  if (isStringLiteral(it.name)) c.modules.push(it.name.text);
+  const id = isStringLiteral(it.name) ? string(c, it.name) : c.ident(it.name, false);
   return c.at('TsModuleDecl', start, it.end, {
     id, declare: hasModifier(it, K.DeclareKeyword),
-    body: it.body ? c.inNamespace(ts.isIdentifier(it.name) ? textOf(it.name) : it.name.text, () => namespaceBody(c, /** @type {any} */ (it.body))) : null,
+    body: it.body ? c.inNamespace(isIdentifier(it.name) ? textOf(it.name) : it.name.text, () => namespaceBody(c, /** @type {any} */ (it.body))) : null,
   });
 }
 
@@ -80,26 +88,26 @@ function namespaceBody(c, body) {
   return c.within((scope) => {
     /** @type {any} */
     let it = body;
-    for (; ts.isModuleDeclaration(it); it = it.body) scope.add(textOf(/** @type {any} */ (it.name)));
+    for (; isModuleDeclaration(it); it = it.body) scope.add(textOf(/** @type {any} */ (it.name)));
     hoistBody(it.statements, scope);
   }, () => namespacePart(c, body));
 }
 
 /** @param {import('typescript').ModuleBlock} block @returns {boolean} whether TypeScript exports its declarations without a word */
 function exportsWithoutWord({ flags, statements }) {
-  return (flags & AMBIENT) !== 0 && !statements.some((it) => ts.isExportDeclaration(it) || ts.isExportAssignment(it));
+  return (flags & AMBIENT) !== 0 && !statements.some((it) => isExportDeclaration(it) || isExportAssignment(it));
 }
 
 /** @param {Converter} c @param {import('typescript').Statement} it of a namespace @returns {string[]} the names that it exports by `export { .. }` or `export import` */
 function exportedBy(c, it) {
-  if (ts.isImportEqualsDeclaration(it)) return hasModifier(it, K.ExportKeyword) ? [textOf(it.name)] : [];
-  return ts.isExportDeclaration(it) && it.exportClause && ts.isNamedExports(it.exportClause) ? it.exportClause.elements.map(({ name }) => moduleName(c, name)) : [];
+  if (isImportEqualsDeclaration(it)) return hasModifier(it, K.ExportKeyword) ? [textOf(it.name)] : [];
+  return isExportDeclaration(it) && it.exportClause && isNamedExports(it.exportClause) ? it.exportClause.elements.map(({ name }) => moduleName(c, name)) : [];
 }
 
 /** @param {Converter} c @param {import('typescript').ModuleBlock} block notes what its statements without a declaration export, where there are any */
 function noteBlock(c, { flags, statements }) {
-  const isListed = statements.some(ts.isExportDeclaration);
-  if (!isListed && !statements.some(ts.isImportEqualsDeclaration)) return;
+  const isListed = statements.some(isExportDeclaration);
+  if (!isListed && !statements.some(isImportEqualsDeclaration)) return;
   const exported = statements.flatMap((it) => exportedBy(c, it));
   if (exported.length === 0 && !isListed) return;
   const own = statements.filter((it) => !hasModifier(it, K.ExportKeyword)).flatMap(declaredNames);
@@ -121,7 +129,7 @@ function items(c, list) {
 
 /** @param {Converter} c @param {import('typescript').ModuleBlock | import('typescript').ModuleDeclaration} body @returns {Made} */
 function namespacePart(c, body) {
-  if (ts.isModuleBlock(body)) {
+  if (isModuleBlock(body)) {
     noteBlock(c, body);
     return c.node('TsModuleBlock', body, { body: c.exporting(exportsWithoutWord(body), () => items(c, body.statements)) });
   }
@@ -160,7 +168,7 @@ export function declaration(c, it, start) {
   const [kind, make] = DECLARATIONS[it.kind] ?? [];
   const made = make ? make(c, it, start) : null;
   const { name } = /** @type {{ name?: import('typescript').Node }} */ (/** @type {unknown} */ (it));
-  const isExported = c.isExported(it) || (name !== undefined && ts.isIdentifier(name) && c.specified.has(textOf(name)));
+  const isExported = c.isExported(it) || (name !== undefined && isIdentifier(name) && c.specified.has(textOf(name)));
   return made && kind ? c.declares(kind, made, name, false, isExported) : made;
 }
 
@@ -177,16 +185,16 @@ export function block(c, node, list) {
 /** @param {Converter} c @param {import('typescript').ForInitializer | undefined} it @param {boolean} isPlain of `for (;;)` */
 function initializer(c, it, isPlain) {
   if (!it) return null;
-  if (ts.isVariableDeclarationList(it)) return variables(c, it, c.start(it), it.end);
-  const isPattern = ts.isIdentifier(it) || ts.isObjectLiteralExpression(it) || ts.isArrayLiteralExpression(it);
+  if (isVariableDeclarationList(it)) return variables(c, it, c.start(it), it.end);
+  const isPattern = isIdentifier(it) || isObjectLiteralExpression(it) || isArrayLiteralExpression(it);
   return isPattern && !isPlain ? target(c, it) : expression(c, it);
 }
 
 /** @param {Converter} c @param {any} it a loop by `for` */
 function forLoop(c, it) {
-  const list = it.initializer && ts.isVariableDeclarationList(it.initializer) && isBlockScoped(it.initializer) ? it.initializer : null;
+  const list = it.initializer && isVariableDeclarationList(it.initializer) && isBlockScoped(it.initializer) ? it.initializer : null;
   return c.within((scope) => list && bindList(list, scope), () => c.other(it, [
-    initializer(c, it.initializer, ts.isForStatement(it)),
+    initializer(c, it.initializer, isForStatement(it)),
     it.condition && expression(c, it.condition),
     it.incrementor && expression(c, it.incrementor),
     it.expression && expression(c, it.expression),
@@ -198,7 +206,7 @@ function forLoop(c, it) {
 function switchNode(c, it) {
   const { clauses } = it.caseBlock;
   const parts = c.within((scope) => clauses.forEach((clause) => hoist(clause.statements, scope)), () => clauses.map((clause) => c.other(clause, [
-    ts.isCaseClause(clause) && expression(c, clause.expression), ...statements(c, clause.statements)])));
+    isCaseClause(clause) && expression(c, clause.expression), ...statements(c, clause.statements)])));
   return c.other(it, [expression(c, it.expression), ...parts]);
 }
 
@@ -217,7 +225,7 @@ function tryNode(c, it) {
 
 /** @param {Converter} c @param {any} it with an expression and a statement, in the order of the text */
 function guarded(c, it) {
-  if (ts.isDoStatement(it)) return c.other(it, [statement(c, it.statement), expression(c, it.expression)]);
+  if (isDoStatement(it)) return c.other(it, [statement(c, it.statement), expression(c, it.expression)]);
   return c.other(it, [expression(c, it.expression), statement(c, it.statement)]);
 }
 

@@ -7,13 +7,14 @@ import { TreeWriter } from './treewriter.js';
 /** @typedef {import('./nodes.js').Nodes} Nodes */
 
 export class TreeText {
-  constructor() {
+  /** @param {number} [length] of the text */
+  constructor(length = 0) {
     /** How many nodes there are, with the program. */
     this.count = 1;
     this.isTooDeep = false;
     /** @type {number[]} the numbers of the items */
     this.body = [];
-    this.writer = new TreeWriter();
+    this.writer = new TreeWriter(length);
   }
 
   /** @param {Nodes} nodes @param {Made} item of the program */
@@ -33,10 +34,20 @@ export class TreeText {
     return all && nodes.of(all);
   }
 
-  /** @param {{ start: number, end: number }} program @returns {Buffer[]} the JSON text of the list of all nodes, in pieces */
-  whole({ start, end }) {
+  /** @param {{ start: number, end: number }} program @returns {string} how the JSON text of the list of all nodes begins */
+  head({ start, end }) {
     const body = this.body.length > 0 ? `,"body":[${this.body.join(',')}]` : '';
-    return [Buffer.from(`[{"kind":"Program","range":[${start},${end}]${body}}`), ...this.writer.pieces(), Buffer.from(']')];
+    return `[{"kind":"Program","range":[${start},${end}]${body}}`;
+  }
+
+  /** @param {{ start: number, end: number }} program @returns {Buffer[]} the JSON text of the list of all nodes, in pieces */
+  whole(program) {
+    return [Buffer.from(this.head(program)), ...this.writer.pieces(), Buffer.from(']')];
+  }
+
+  /** @param {{ start: number, end: number }} program @param {string[]} before @param {string} behind @returns {Buffer} the JSON text of that list between these, after which nothing is added */
+  between(program, before, behind) {
+    return this.writer.between([...before, this.head(program)], `]${behind}`);
   }
 
   /** Has the memory of the text used for another tree, once it is copied. */

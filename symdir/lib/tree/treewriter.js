@@ -1,6 +1,7 @@
 // Writes nodes as JSON, into bytes: a huge file has millions of them, and texts that are put together cost more than parsing. What each
 // node begins with, and names of fields, are written eight bytes at a time, and numbers four digits at a time.
 
+import { unaccounted, unitsOf } from './memory.js';
 import { END, FIELDS, FIELD_NAMES, KIND_NAMES, LIST, NEXT, NODE, SIZE, SORT, SORT_BITS, START, SYMBOL, TRUE } from './nodes.js';
 
 /** @typedef {import('./nodes.js').Made} Made */
@@ -8,6 +9,8 @@ import { END, FIELDS, FIELD_NAMES, KIND_NAMES, LIST, NEXT, NODE, SIZE, SORT, SOR
 
 /** So many bytes are written before the next piece begins. */
 const PIECE = 1 << 20;
+/** So many bytes most texts become for each of their units, and so many stand before them at most: the text itself, and the numbers of items. */
+const [BYTES_OF_A_UNIT, BYTES_BEFORE_A_UNIT] = [16, 8];
 /** More than a number has, with what stands around it and what is written behind it and then over. */
 const NUMBER_ROOM = 20;
 /** More than a node has without its lists and texts. */
@@ -87,15 +90,6 @@ function putHead(view, at, head, start, end) {
   return close + 1;
 }
 
-/**
- * Returns memory for a further piece of a long tree. V8 counts other memory, and looks anew through all that the parser made as it grows; what
- * threads can share it doesn't count.
- * @param {number} count of bytes
- */
-function unaccounted(count) {
-  return Buffer.from(new SharedArrayBuffer(count));
-}
-
 /** @type {Buffer | null} the first piece of a tree that was copied: V8 counts its memory, and would collect garbage early for one of each file */
 let spare = null;
 
@@ -107,39 +101,68 @@ function firstPiece(count) {
   return found;
 }
 
-/** @param {number[]} list @param {number} from the first of those whose order is turned round */
-function reverse(list, from) {
-  for (let i = from, k = list.length - 1; i < k; i++, k--) [list[i], list[k]] = [list[k], list[i]];
+/** @param {string[]} texts @returns {number} how many bytes they have */
+function bytesOf(texts) {
+  return texts.reduce((sum, it) => sum + Buffer.byteLength(it), 0);
 }
 
 export class TreeWriter {
-  constructor() {
-    this.bytes = Buffer.allocUnsafeSlow(0);
+  /** @param {number} [length] of the text */
+  constructor(length = 0) {
+    const units = unitsOf(length);
+    /** Where the first piece begins, in memory for all of a long text. */
+    this.from = BYTES_BEFORE_A_UNIT * units;
+    this.bytes = units > 0 ? Buffer.from(unaccounted(this.from + BYTES_OF_A_UNIT * units)) : Buffer.allocUnsafeSlow(0);
     this.view = new DataView(this.bytes.buffer);
-    this.at = 0;
-    this.first = this.bytes;
+    this.at = this.from;
+    /** @type {Buffer | null} the first piece of a text that isn't long */
+    this.first = null;
     /** @type {Buffer[]} */
     this.full = [];
-    /** @type {Made[]} what is written next, the first behind the others */
+    /** @type {Made[]} nodes that are written next, level by level, and how many they are */
     this.waiting = [];
+    this.count = 0;
+  }
+
+  /** @returns {Buffer} what is written of the piece */
+  last() {
+    return this.bytes.subarray(this.full.length > 0 ? 0 : this.from, this.at);
   }
 
   /** @returns {Buffer[]} what is written: a comma before each node */
   pieces() {
-    return [...this.full, this.bytes.subarray(0, this.at)];
+    return [...this.full, this.last()];
+  }
+
+  /** @param {string[]} before @param {string} behind @returns {Buffer} what is written, between these, after which nothing more is: that of a long text isn't copied */
+  between(before, behind) {
+    const start = this.from - bytesOf(before);
+    if (this.full.length > 0 || start < 0 || this.at + bytesOf([behind]) > this.bytes.length) {
+      const all = Buffer.concat([...before.map((it) => Buffer.from(it)), ...this.pieces(), Buffer.from(behind)]);
+      this.free();
+      return all;
+    }
+    let { from } = this;
+    for (let i = before.length - 1; i >= 0; i--) this.bytes.write(before[i], from -= Buffer.byteLength(before[i]));
+    return this.bytes.subarray(start, this.at + this.bytes.write(behind, this.at));
   }
 
   /** Has the first piece's memory used for the next tree: what was written is copied, and nothing more is. */
   free() {
-    if (this.first.length >= PIECE) spare = this.first;
+    if (this.first !== null) spare = this.first;
   }
 
   /** @param {number} count of bytes that are written next */
   room(count) {
-    if (this.at + count <= this.bytes.length) return;
-    this.full.push(this.bytes.subarray(0, this.at));
-    if (this.full.length === 1) this.bytes = this.first = firstPiece(count);
-    else this.bytes = unaccounted(Math.max(PIECE, count));
+    if (this.at + count > this.bytes.length) this.begin(count);
+  }
+
+  /** @param {number} count of bytes that the next piece has at least, which begins */
+  begin(count) {
+    const isFirst = this.bytes.length === 0;
+    this.full.push(this.last());
+    if (isFirst) this.bytes = this.first = firstPiece(count);
+    else this.bytes = Buffer.from(unaccounted(Math.max(PIECE, count)));
     this.view = new DataView(this.bytes.buffer);
     this.at = 0;
   }
@@ -165,16 +188,28 @@ export class TreeWriter {
   /** @param {Nodes} nodes @param {Made} root @param {number} number of the root: what it holds has the next ones, each before what that holds */
   tree(nodes, root, number) {
     const { waiting } = this;
+    // of each level which one is next, and where they end: behind them stand those that the last one written holds
+    const [nexts, ends] = [[0], [1]];
     let next = number;
-    waiting.push(root);
-    while (waiting.length > 0) this.node(nodes, /** @type {Made} */ (waiting.pop()), ++next);
+    waiting[0] = root;
+    for (let level = 0; level >= 0;) {
+      const [i, end] = [nexts[level]++, ends[level]];
+      if (i === end) level--;
+      else {
+        this.count = end;
+        this.node(nodes, waiting[i], ++next);
+        if (this.count > end) {
+          level++;
+          nexts[level] = end;
+          ends[level] = this.count;
+        }
+      }
+    }
   }
 
   /** @param {Nodes} nodes @param {Made} made @param {number} next the number of the first that it holds */
   node(nodes, made, next) {
-    const { waiting } = this;
     const { words } = nodes;
-    const from = waiting.length;
     const end = words[made + NEXT];
     this.room(NODE_ROOM);
     let { view, at } = this;
@@ -187,7 +222,7 @@ export class TreeWriter {
         const child = words[field++];
         at = putNumber(view, at, free);
         free += words[child + SIZE];
-        waiting.push(child);
+        this.waiting[this.count++] = child;
       } else if (sort === TRUE) at = putAscii(view, at, TRUE_TEXT);
       else {
         this.at = at;
@@ -200,7 +235,6 @@ export class TreeWriter {
     }
     view.setUint8(at, CLOSE_NODE);
     this.at = at + 1;
-    if (waiting.length > from + 1) reverse(waiting, from);
   }
 
   /** @param {Nodes} nodes @param {number} at where a text's number stands @param {boolean} isSymbol whether that of a scope stands behind it */
@@ -221,21 +255,21 @@ export class TreeWriter {
 
   /** @param {Int32Array} words @param {number} from where the length of the list stands @param {number} free @returns {number} */
   list(words, from, free) {
-    const { waiting } = this;
     const count = words[from];
     this.room((count + 1) * NUMBER_ROOM);
-    const { view } = this;
-    let { at } = this;
+    const { view, waiting } = this;
+    let { at, count: last } = this;
     let next = free;
     for (let i = 1; i <= count; i++) {
       view.setUint8(at++, i === 1 ? OPEN : COMMA);
       at = putNumber(view, at, next);
       const made = words[from + i];
-      waiting.push(made);
+      waiting[last++] = made;
       next += words[made + SIZE];
     }
     view.setUint8(at, CLOSE);
     this.at = at + 1;
+    this.count = last;
     return next;
   }
 }

@@ -1,6 +1,6 @@
 // Types, and the members of interfaces.
 import { K, hasModifier, ts } from './converter.js';
-import { hoistFunction, textOf } from './scopes.js';
+import { MODULE_SCOPE, hoistFunction, textOf } from './scopes.js';
 import { elementKey, entity } from './names.js';
 import { formOf, nameNumber } from './nodes.js';
 import { parameter, parameters } from './patterns.js';
@@ -9,7 +9,10 @@ import { expression } from './expressions.js';
 /** @typedef {import('./converter.js').Converter} Converter */
 /** @typedef {import('./nodes.js').Made} Made */
 
-const TYPE_ANN = formOf('TsTypeAnn');
+const { forEachChild, isConditionalTypeNode, isIdentifier, isImportTypeNode, isInferTypeNode, isLiteralTypeNode, isNamedTupleMember,
+  isStringLiteral, isTypeNode } = ts;
+
+const [TYPE_ANN, IDENT, BINDING_IDENT] = ['TsTypeAnn', 'Ident', 'BindingIdent'].map(formOf);
 const TY = nameNumber('ty');
 /** @type {Made[]} */
 const NONE = [];
@@ -73,7 +76,7 @@ export function heritage(c, it) {
 
 /** @param {Converter} c @param {import('typescript').ImportTypeNode} node */
 function importType(c, node) {
-  const literal = ts.isLiteralTypeNode(node.argument) && ts.isStringLiteral(node.argument.literal) ? node.argument.literal : null;
+  const literal = isLiteralTypeNode(node.argument) && isStringLiteral(node.argument.literal) ? node.argument.literal : null;
   if (!literal) return c.type(node, [type(c, node.argument)]);
   const arg = c.refers('import type', literal, node);
   const first = node.qualifier && firstName(node.qualifier);
@@ -87,28 +90,28 @@ function importType(c, node) {
 
 /** @param {import('typescript').EntityName} name @returns {import('typescript').Identifier} */
 function firstName(name) {
-  return ts.isIdentifier(name) ? name : firstName(name.left);
+  return isIdentifier(name) ? name : firstName(name.left);
 }
 
 /** @param {Converter} c @param {import('typescript').EntityName} name @returns {Made} names of another module, which no scope here declares */
 function qualifier(c, name) {
-  if (ts.isIdentifier(name)) return c.node('Ident', name, { sym: [textOf(name), 1] });
+  if (isIdentifier(name)) return c.symbol(IDENT, name, textOf(name), MODULE_SCOPE);
   return c.node('TsQualifiedName', name, { left: qualifier(c, name.left), right: textOf(name.right) });
 }
 
 /** @param {Converter} c @param {import('typescript').TypeNode | import('typescript').NamedTupleMember} it */
 function tupleElement(c, it) {
-  if (!ts.isNamedTupleMember(it)) return c.node('TsTupleElement', it, { ty: type(c, it) });
-  const name = c.node('BindingIdent', it.name, { sym: [textOf(it.name), 1] });
+  if (!isNamedTupleMember(it)) return c.node('TsTupleElement', it, { ty: type(c, it) });
+  const name = c.symbol(BINDING_IDENT, it.name, textOf(it.name), MODULE_SCOPE);
   const label = it.dotDotDotToken ? c.at('RestPat', c.start(it.dotDotDotToken), it.name.end, { arg: name }) : name;
   return c.node('TsTupleElement', it, { label, ty: type(c, it.type) });
 }
 
 /** @param {import('typescript').Node} node @param {Set<string>} names what `infer` names in it, nested conditions' `extends` apart */
 function inferred(node, names) {
-  if (ts.isInferTypeNode(node)) names.add(textOf(node.typeParameter.name));
-  if (ts.isConditionalTypeNode(node)) for (const it of [node.checkType, node.trueType, node.falseType]) inferred(it, names);
-  else ts.forEachChild(node, (it) => inferred(it, names));
+  if (isInferTypeNode(node)) names.add(textOf(node.typeParameter.name));
+  if (isConditionalTypeNode(node)) for (const it of [node.checkType, node.trueType, node.falseType]) inferred(it, names);
+  else forEachChild(node, (it) => inferred(it, names));
 }
 
 /** @param {Converter} c @param {import('typescript').ConditionalTypeNode} node */
@@ -130,7 +133,7 @@ function mapped(c, node) {
 /** @param {Converter} c @param {import('typescript').TypePredicateNode} node */
 function predicate(c, node) {
   const { parameterName: name, type: of } = node;
-  return c.type(node, [ts.isIdentifier(name) && c.ident(name), of && c.at('TsTypeAnn', c.start(of), of.end, { ty: type(c, of) })]);
+  return c.type(node, [isIdentifier(name) && c.ident(name), of && c.at('TsTypeAnn', c.start(of), of.end, { ty: type(c, of) })]);
 }
 
 /** @param {Converter} c @param {import('typescript').Node} node any other type @returns {Made} with the types in it */
@@ -138,7 +141,7 @@ function plain(c, node) {
   if (node.kind <= K.LastToken) return c.type(node, NONE);
   /** @type {Made[]} */
   const parts = [];
-  ts.forEachChild(node, (it) => void (ts.isTypeNode(it) && parts.push(type(c, it))));
+  forEachChild(node, (it) => void (isTypeNode(it) && parts.push(type(c, it))));
   return c.type(node, parts);
 }
 
@@ -146,9 +149,12 @@ function plain(c, node) {
 const TYPES = {
   [K.TypeReference]: (c, node) => c.type(node, [entity(c, node.typeName), typeArguments(c, node.typeArguments)]),
   [K.ExpressionWithTypeArguments]: (c, node) => c.type(node, [expression(c, node.expression), typeArguments(c, node.typeArguments)]),
-  [K.TypeQuery]: (c, node) => (ts.isImportTypeNode(node.exprName) ? c.node('TsTypeQuery', node, { expr_name: importType(c, node.exprName) })
+  [K.TypeQuery]: (c, node) => (isImportTypeNode(node.exprName) ? c.node('TsTypeQuery', node, { expr_name: importType(c, node.exprName) })
     : c.node('TsTypeQuery', node, { expr_name: c.typed(false, () => entity(c, node.exprName)), type_args: typeArguments(c, node.typeArguments) })),
   [K.ImportType]: importType,
+  [K.UnionType]: (c, node) => c.type(node, node.types.map((/** @type {any} */ it) => type(c, it))),
+  [K.IntersectionType]: (c, node) => c.type(node, node.types.map((/** @type {any} */ it) => type(c, it))),
+  [K.ArrayType]: (c, node) => c.type(node, [type(c, node.elementType)]),
   [K.TypeLiteral]: (c, node) => c.type(node, node.members.map((/** @type {any} */ it) => element(c, it))),
   [K.FunctionType]: functionType,
   [K.ConstructorType]: functionType,
@@ -164,8 +170,10 @@ const TYPES = {
 
 /** @param {Converter} c @param {import('typescript').FunctionOrConstructorTypeNode} node */
 function functionType(c, node) {
-  return c.within((scope) => hoistFunction(node, scope), () => c.type(node, [
-    ...parameters(c, node.parameters, true), typeParameters(c, node.typeParameters), annotation(c, node.type)]));
+  hoistFunction(node, c.open());
+  const made = c.type(node, [...parameters(c, node.parameters, true), typeParameters(c, node.typeParameters), annotation(c, node.type)]);
+  c.close();
+  return made;
 }
 
 /** @param {Converter} c @param {import('typescript').Node} node @returns {Made} */

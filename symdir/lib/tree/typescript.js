@@ -8,6 +8,7 @@ import { Script } from 'node:vm';
 import { findTypeScript } from '../typescript.js';
 import { replaceFile } from '../write.js';
 import { optimize } from './budget.js';
+import { LONG_TEXT } from './memory.js';
 import { usedTypeScript } from './which.js';
 
 /** Where the last block of the parser begins, and what each block ends with. */
@@ -89,10 +90,7 @@ const which = usedTypeScript()?.it ?? { typescript: findTypeScript(process.cwd()
 const kept = readStored(which.kept);
 await usedTypeScript()?.when;
 if (!which.isGuest) optimize(true);
-/** The length of a text from which on it is worth it that V8 optimizes as usual. */
-const LONG_TEXT = 1_000_000;
-
-/** @param {string} text that will be parsed */
+/** @param {string} text that will be parsed: for a long one it is worth it that V8 optimizes as usual */
 export function expect(text) {
   if (text.length >= LONG_TEXT && !which.isGuest) optimize(false);
 }
@@ -101,6 +99,7 @@ const ascii = kept ? null : inAscii(readParser(which.typescript, 'latin1'));
 const text = kept?.text ?? Module.wrap(ascii ?? readParser(which.typescript, 'utf8'));
 const loaded = load(which.typescript, text, kept?.compiled);
 
+/** What is called often is taken out of it once: to look up one of its thousands of names takes longer than most of these calls. */
 /** @type {typeof import('typescript')} */
 export const ts = /** @type {any} */ (loaded.value);
 export const K = ts.SyntaxKind;
