@@ -58,6 +58,7 @@ const OUT = /** @type {const} */ ({ type: 'string', short: 'o' });
  * @property {boolean} [bodies] whether what stands in the bodies of functions is read in any case
  * @property {(run: Run) => Promise<void>} [check] what its words have to be, told before files are read
  * @property {(options: Record<string, any>) => string | undefined} [result] what of its answer is kept, in a word
+ * @property {(options: Record<string, any>) => Promise<unknown>[]} [load] what its answer on new files needs, loaded while threads start that parse them
  * @property {boolean} [reportsFaults] whether what can't be parsed is told with its answer
  * @property {boolean} [isLookUp] whether its status is by its answer alone, and no other file's fault is a finding
  * @property {(run: Run, folder: import('./folder/folder.js').Folder) => Promise<number>} [ask]
@@ -84,6 +85,7 @@ const COMMANDS = {
     apart: [...WATCHED_APART, ['save', 'check'], ['check', 'html'], ...SAVED],
     check: async (run) => (await import('./commands/api.js')).checkSave(run),
     result: ({ html, save, check, baseline }) => (save || check ? 'surface' : html && !baseline ? 'page' : undefined),
+    load: ({ html }) => (html ? [import('./report/described.js'), import('./report/html.js'), import('./report/picture.js')] : []),
     ask: async (run, folder) => (await import('./commands/api.js')).api(run, folder) },
   leaks: { options: WATCHED, words: 1, apart: WATCHED_APART,
     ask: async (run, folder) => (await import('./commands/leaks.js')).leaks(run, folder) },
@@ -150,6 +152,8 @@ async function asked(run, command) {
   await command.check?.(run);
   // what answers has to be there before time is spent on files
   const begun = await begin(how, { ...await engineOf(run), result: command.result?.(run.options) });
+  // what can't be loaded is told where it is used
+  if (begun.last === null) command.load?.(run.options).forEach((it) => it.catch(() => {}));
   try {
     return await answered(run, command, begun);
   } finally {

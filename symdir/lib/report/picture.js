@@ -15,8 +15,12 @@ const ATTRIBUTES = new Set([
   'text-anchor', 'font-family', 'font-size', 'font-weight', 'xlink:href', 'xlink:title',
 ]);
 
+/** Attributes that stay as they are, as most do. */
+const PLAIN = new RegExp(`^(?: (?:${[...ATTRIBUTES].filter((it) => !it.startsWith('xlink:')).join('|')})="[^"<]*")*$`);
+
 /** @param {string} text attributes as Graphviz writes them @returns {string} */
 function attributesOf(text) {
+  if (PLAIN.test(text)) return text;
   return text.replace(/\s+([\w:-]+)="([^"]*)"/g, (_, /** @type {string} */ name, /** @type {string} */ value) => {
     if (!ATTRIBUTES.has(name) || (name === 'xlink:href' && !value.startsWith('#'))) return '';
     return ` ${name.replace('xlink:href', 'href').replace('xlink:title', 'data-tip')}="${value.replaceAll('<', '&#60;')}"`;

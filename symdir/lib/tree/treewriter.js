@@ -72,11 +72,20 @@ function putGroup(view, at, value) {
   return at + 4 - zeros;
 }
 
+/** @param {DataView} view @param {number} at @param {number} value of more than two groups of digits @returns {number} where it ends */
+function putLong(view, at, value) {
+  const high = Math.floor(value / GROUP);
+  const from = putNumber(view, at, high);
+  view.setUint32(from, DIGITS[value - high * GROUP], true);
+  return from + 4;
+}
+
 /** @param {DataView} view @param {number} at @param {number} value a whole number @returns {number} where it ends */
 function putNumber(view, at, value) {
   if (value < GROUP) return putGroup(view, at, value);
-  const high = value > LARGEST ? Math.floor(value / GROUP) : (value / GROUP) | 0;
-  const from = value > LARGEST ? putNumber(view, at, high) : putGroup(view, at, high);
+  if (value > LARGEST) return putLong(view, at, value);
+  const high = (value / GROUP) | 0;
+  const from = putGroup(view, at, high);
   view.setUint32(from, DIGITS[value - high * GROUP], true);
   return from + 4;
 }
@@ -189,11 +198,13 @@ export class TreeWriter {
   tree(nodes, root, number) {
     const { waiting } = this;
     // of each level which one is next, and where they end: behind them stand those that the last one written holds
-    const [nexts, ends] = [[0], [1]];
+    const nexts = [0];
+    const ends = [1];
     let next = number;
     waiting[0] = root;
     for (let level = 0; level >= 0;) {
-      const [i, end] = [nexts[level]++, ends[level]];
+      const i = nexts[level]++;
+      const end = ends[level];
       if (i === end) level--;
       else {
         this.count = end;
