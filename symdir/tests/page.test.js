@@ -202,6 +202,7 @@ test('of a picture each element and each attribute stays that Graphviz writes, a
   for (const it of ['script', 'image', 'use', 'style', 'animate', 'foreignObject', 'set', 'textPath', 'xsvg', 'b', 'linearGradient']) assert.equal(inlined(`<svg><${it} x="1"/></svg>`), '<svg></svg>', it);
   const kept = 'id class transform fill stroke stroke-width stroke-dasharray points d cx cy rx ry x y text-anchor font-family font-size font-weight width height viewBox'.split(' ');
   for (const it of kept) assert.equal(inlined(`<svg ${it}="a"></svg>`), `<svg ${it}="a"></svg>`, it);
+  assert.equal(inlined('<svg id="a"  x="1"\n y="2" onload="b" d="<"><g x="1" onload="b" y="2"></g><g id="c" x="1"></g></svg>'), '<svg id="a" x="1" y="2" d="&#60;"><g x="1" y="2"></g><g id="c" x="1"></g></svg>');
   for (const it of ['onload', 'style', 'href', 'src', 'xlink', 'xmlns', 'xml:space', 'target', 'fill-rule', 'data-id']) assert.equal(inlined(`<svg ${it}="#a"></svg>`), '<svg></svg>', it);
 });
 

@@ -79,7 +79,7 @@ test('a tree of several pieces, with a text that is longer than one, whose memor
   assert.ok(counted < 1_500_000 && text.length > 7_000_000, `${counted} of ${text.length}`);
 });
 
-test('a long text\'s tree stands once, in memory that threads share, with what is before and behind it; where that doesn\'t fit it is copied', () => {
+test('a long text\'s tree stands once, in memory that threads share, with what is before and behind it; where that doesn\'t fit, or can\'t be had, it is copied', () => {
   const items = (/** @type {number} */ count) => Array.from({ length: count }, (_, i) => new TreeNode('ExprStmt', i, i + 9, { expr: new TreeNode('Ident', i, i, { sym: [`n${i}`, 1] }) }));
   const made = (/** @type {number} */ count, /** @type {string} */ before) => {
     const text = new TreeText(1_000_000);
@@ -92,6 +92,17 @@ test('a long text\'s tree stands once, in memory that threads share, with what i
   };
   assert.deepEqual([made(1000, 'x'), made(1000, 'x'.repeat(7_900_000)), made(0, '')], [false, false, false]);
   assert.deepEqual([made(1000, 'x'.repeat(8_000_000)), made(150_000, 'x')], [true, true]);
+  // the system has no such piece
+  const { SharedArrayBuffer: all } = globalThis;
+  globalThis.SharedArrayBuffer = /** @type {any} */ (function (/** @type {number} */ count) {
+    if (count > 4_000_000) throw new RangeError('Array buffer allocation failed');
+    return new all(count);
+  });
+  try {
+    assert.deepEqual([made(1000, 'x'), new Nodes(1_000_000).words.length], [true, 4096]);
+  } finally {
+    globalThis.SharedArrayBuffer = all;
+  }
 });
 
 test('a deep tree that is made item by item: what can go is left out, and it is too deep where nothing can', () => {

@@ -6,12 +6,17 @@ export const LONG_TEXT = 1_000_000;
 /** A longer text is given as much as this one. */
 const LONGEST = 1 << 25;
 
-/** @param {number} length of a text @returns {number} the units for which memory is taken at once; 0 where it isn't long */
-export function unitsOf(length) {
-  return length < LONG_TEXT ? 0 : Math.min(length, LONGEST);
-}
-
 /** @param {number} count of bytes @returns {SharedArrayBuffer} memory that V8 doesn't count */
 export function unaccounted(count) {
   return new SharedArrayBuffer(count);
+}
+
+/** @param {number} length of a text @param {number} each how many bytes it becomes for each of its units @returns {SharedArrayBuffer | null} memory for all of it; null where it isn't long, or the system has no such piece */
+export function memoryFor(length, each) {
+  if (length < LONG_TEXT) return null;
+  try {
+    return unaccounted(each * Math.min(length, LONGEST));
+  } catch {
+    return null;
+  }
 }

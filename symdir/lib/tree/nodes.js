@@ -1,6 +1,6 @@
 // Nodes while a text is converted: rows of numbers, each behind what it holds. A huge text has millions of nodes, and collecting as many
 // objects costs more than parsing. V8's texts have less than 2 ** 29 units, so a place in bytes has 31 bits. A scope's number has 32.
-import { unaccounted, unitsOf } from './memory.js';
+import { memoryFor, unaccounted } from './memory.js';
 import { TreeNode } from './node.js';
 
 /** @typedef {number} Made a node that is made: where it stands, and never 0 */
@@ -15,8 +15,8 @@ export const SORT = (1 << SORT_BITS) - 1;
 /** More words than a row has without the numbers of its lists. */
 const ROOM = 64;
 const FIRST_WORDS = 4096;
-/** So many words most texts become for each of their units, if they are one statement. */
-const WORDS_OF_A_UNIT = 2;
+/** So many bytes of rows most texts become for each of their units, if they are one statement. */
+const BYTES_OF_A_UNIT = 8;
 
 /** @type {string[]} by number */
 export const KIND_NAMES = [];
@@ -56,15 +56,10 @@ function nameOf(form, i, key) {
   return number;
 }
 
-/** @param {number} count @returns {Int32Array} */
-function wordsOf(count) {
-  return new Int32Array(count > FIRST_WORDS ? unaccounted(4 * count) : new ArrayBuffer(4 * count));
-}
-
 export class Nodes {
   /** @param {number} [length] of the text */
   constructor(length = 0) {
-    this.words = wordsOf(Math.max(FIRST_WORDS, WORDS_OF_A_UNIT * unitsOf(length)));
+    this.words = new Int32Array(memoryFor(length, BYTES_OF_A_UNIT) ?? new ArrayBuffer(4 * FIRST_WORDS));
     /** Where the next row begins. */
     this.at = 1;
     /** @type {string[]} what texts and symbols stand for, as far as `count` */
@@ -84,7 +79,7 @@ export class Nodes {
   /** @param {number} count of words that are written next */
   room(count) {
     if (this.at + count <= this.words.length) return;
-    const more = wordsOf(2 * (this.at + count));
+    const more = new Int32Array(unaccounted(8 * (this.at + count)));
     more.set(this.words.subarray(0, this.at));
     this.words = more;
   }

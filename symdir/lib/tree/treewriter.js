@@ -1,7 +1,7 @@
 // Writes nodes as JSON, into bytes: a huge file has millions of them, and texts that are put together cost more than parsing. What each
 // node begins with, and names of fields, are written eight bytes at a time, and numbers four digits at a time.
 
-import { unaccounted, unitsOf } from './memory.js';
+import { memoryFor, unaccounted } from './memory.js';
 import { END, FIELDS, FIELD_NAMES, KIND_NAMES, LIST, NEXT, NODE, SIZE, SORT, SORT_BITS, START, SYMBOL, TRUE } from './nodes.js';
 
 /** @typedef {import('./nodes.js').Made} Made */
@@ -9,8 +9,8 @@ import { END, FIELDS, FIELD_NAMES, KIND_NAMES, LIST, NEXT, NODE, SIZE, SORT, SOR
 
 /** So many bytes are written before the next piece begins. */
 const PIECE = 1 << 20;
-/** So many bytes most texts become for each of their units, and so many stand before them at most: the text itself, and the numbers of items. */
-const [BYTES_OF_A_UNIT, BYTES_BEFORE_A_UNIT] = [16, 8];
+/** So many bytes most texts become for each of their units, of which this part is for what stands before: the text itself, and the numbers of items. */
+const [BYTES_OF_A_UNIT, PART_BEFORE] = [24, 3];
 /** More than a number has, with what stands around it and what is written behind it and then over. */
 const NUMBER_ROOM = 20;
 /** More than a node has without its lists and texts. */
@@ -118,10 +118,10 @@ function bytesOf(texts) {
 export class TreeWriter {
   /** @param {number} [length] of the text */
   constructor(length = 0) {
-    const units = unitsOf(length);
+    const memory = memoryFor(length, BYTES_OF_A_UNIT);
+    this.bytes = memory ? Buffer.from(memory) : Buffer.allocUnsafeSlow(0);
     /** Where the first piece begins, in memory for all of a long text. */
-    this.from = BYTES_BEFORE_A_UNIT * units;
-    this.bytes = units > 0 ? Buffer.from(unaccounted(this.from + BYTES_OF_A_UNIT * units)) : Buffer.allocUnsafeSlow(0);
+    this.from = Math.floor(this.bytes.length / PART_BEFORE);
     this.view = new DataView(this.bytes.buffer);
     this.at = this.from;
     /** @type {Buffer | null} the first piece of a text that isn't long */
