@@ -1,9 +1,13 @@
 -- A set by its keys: with one key more, and without it again.
-use Rattle.std.proofs.Common.{◌≡◌, ℕ, suc, ◌+◌, ◌<◌, ◌^◌, Bool, true, false, not, cond, ◌||◌, List, [], ◌∷◌, ◌++◌}
+use Rattle.std.proofs.Common.{◌≡◌, ℕ, suc, ◌+◌, ◌<◌, ◌^◌, Bool, true, false, not, cond, ◌&&◌, ◌||◌, List, [], ◌∷◌, ◌++◌}
 use Rattle.std.proofs.Common.{length, Option, None, Some, option_to_list, refl, sym, ap, ◌∙◌, arith, true≢false}
 use Rattle.std.specs.Prelude.{if◌then◌else◌, IsSome, ◌↔◌}
 use Rattle.std.specs.List.{list_any, position_or_len}
-use Rattle.std.proofs.lemmas.List.{length-append, same_from_push}
+use Rattle.std.proofs.lemmas.List.{length-append, append_assoc, same_from_push}
+use Rattle.std.proofs.lemmas.List.Folds.{list_any-append}
+use Rattle.std.proofs.lemmas.Cmp.{nat_eq_equiv}
+use Rattle.symbols_ast.specs.declared.ids.UniqueSymbolId.{UniqueSymbolId}
+use Rattle.symbols_paths.specs.inner.VisitedSymbols.{is_same_unique_id}
 use Rattle.indexmap.specs.IndexSet.{insert_key}
 
 module _ {A : Type 0} (same : A → A → Bool) where
@@ -43,3 +47,27 @@ pub popped : {A : Type 0} (before now after : List A) (x : A) (last : Option A) 
 popped before now after x None count pushed split counted found =
     absurd (true≢false (sym (found.1 (omega (arith, counted, ap length pushed, length-append before (x ∷ []))))))
 popped before now after x (Some y) count pushed split counted found = (same_from_push after before y x (sym split ∙ pushed)).0
+
+-- a set whose keys are in two lists, and an element that is added to the second
+module _ {A : Type 0} (same : A → A → Bool) where
+  pub in_second : (few more after : List A) (x : A) (is_new : Bool) → list_any (same x) few ≡ false → is_new ≡ not (list_any (same x) more)
+      → after ≡ insert_key same more x
+      → (is_new ≡ not (list_any (same x) (few ++ more))) × (few ++ after ≡ insert_key same (few ++ more) x)
+  in_second few more after x is_new absent said inserted =
+      let there : list_any (same x) (few ++ more) ≡ list_any (same x) more = list_any-append (same x) few more
+      ∙ ap (λ b. b || list_any (same x) more) absent in (
+        said ∙ ap not (sym there),
+        by (list_any (same x) more) inserted ∙ ap (λ b. if b then few ++ more else few ++ more ++ x ∷ []) (sym there),
+      )
+    where
+      by : (b : Bool) → after ≡ (if b then more else more ++ x ∷ []) → few ++ after ≡ (if b then few ++ more else few ++ more ++ x ∷ [])
+      by true is = ap (λ ys. few ++ ys) is
+      by false is = ap (λ ys. few ++ ys) is ∙ sym (append_assoc few more (x ∷ []))
+
+pub same_unique_id_symm : (s t : UniqueSymbolId) → is_same_unique_id s t ≡ is_same_unique_id t s
+same_unique_id_symm s t = λ i. nat_eq_equiv.symm s.module_id.0 t.module_id.0 i && nat_eq_equiv.symm s.symbol_id.0 t.symbol_id.0 i
+
+-- whether a symbol is among others, by a test with the sides swapped
+pub among_swapped : (xs : List UniqueSymbolId) (s : UniqueSymbolId) → list_any (λ t. is_same_unique_id t s) xs ≡ list_any (is_same_unique_id s) xs
+among_swapped [] s = refl
+among_swapped (t ∷ xs) s = λ i. same_unique_id_symm t s i || among_swapped xs s i

@@ -7,4 +7,5 @@ pub mod SearchSteps
 pub mod DepAnswers
 pub mod StillToCome
 pub mod SearchWork
+pub mod VisitedSymbols
 pub mod SearchInvariants

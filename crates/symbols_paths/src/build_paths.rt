@@ -17,7 +17,9 @@ ghost use Rattle.symbols_paths.specs.inner.PathBuilders.{modules_of_segments, mo
 
 use crate::definition_iter::DefinitionOrUnresolved;
 use crate::definition_path::{DefinitionPathLink, DefinitionPathNode, DefinitionPathNodeResolved};
-use crate::path_builder::{LinkStep, OpenedBuilder, OpenedSegment, PathBuilder, Segment};
+use crate::path_builder::{
+    LinkStep, OpenedBuilder, OpenedSegment, PathBuilder, SHORT, Segment, add_builder,
+};
 use crate::path_links::copied_parts;
 use crate::shared_parts::SharedParts;
 use std::alloc::{AllocError, Global};
@@ -217,6 +219,9 @@ fn with_paths<'a>(
     }
     let mut all = paths;
     let mut more = more;
+    if all.len() < SHORT {
+        all.reserve_exact(more.len())?;
+    }
     all.append(&mut more)?;
     Ok(all)
 }
@@ -254,7 +259,7 @@ pub(crate) fn build_paths<'a>(
                 }
                 OpenedBuilder::Fork(segments, branches, last) => {
                     let mut branches = branches;
-                    branches.push(Box::into_inner(last))?;
+                    add_builder(&mut branches, Box::into_inner(last))?;
                     branches.reverse();
                     forks.push(OpenFork {
                         segments,

@@ -19,6 +19,7 @@ use crate::path_builder::PathBuilder;
 use crate::resume_search::{replace_next_definition, resume_frame};
 use crate::search_step::{Frame, SearchState, Step};
 use crate::shared_parts::SharedParts;
+use crate::visited_symbols::VisitedSymbols;
 use indexmap::IndexSet;
 use std::collections::VecDeque;
 use symbols_graph::ids::UniqueSymbolId;
@@ -85,7 +86,7 @@ fn search_from<'a>(
         root.new after paths.items) }
 {
     let resolving = IndexSet::new(root.alloc());
-    let visited = IndexSet::new(root.alloc());
+    let visited = VisitedSymbols::new(root.alloc());
     let mut state = SearchState {
         resolving,
         visited,

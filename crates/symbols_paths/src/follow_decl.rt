@@ -37,7 +37,7 @@ use crate::path_links::{
 use crate::re_exported_symbol::{re_exported_symbol, resolve_specifier};
 use crate::search_step::{AliasSearch, Expansion, Frame, SearchState, StarSearch, Step};
 use crate::shared_parts::SharedParts;
-use indexmap::IndexSet;
+use crate::visited_symbols::VisitedSymbols;
 use std::alloc::{AllocError, Global};
 use symbols_graph::ids::{ModuleId, SymbolId, UniqueSymbolId};
 use symbols_graph::tree::{Id, SourceRange};
@@ -208,7 +208,7 @@ pub(crate) fn begin_search<'a>(
 {
     stored_modules_distinct(root);
     let paths = Vec::new(root.alloc());
-    let (_, is_new) = state.visited.insert_full(symbol)?;
+    let is_new = state.visited.insert(root.alloc(), symbol)?;
     if !is_new {
         return Ok(Step::Found(paths));
     }
@@ -312,7 +312,7 @@ fn begin_alias<'a>(
     }
     let target = UniqueSymbolId::new(here.symbol.module_id, symbol_id);
     let waits = parts.same()?;
-    let visited = std::mem::replace(&mut state.visited, IndexSet::new(root.alloc()));
+    let visited = std::mem::replace(&mut state.visited, VisitedSymbols::new(root.alloc()));
     let outer = AliasSearch {
         here,
         parts,

@@ -20,6 +20,7 @@ mod resume_search;
 mod search_step;
 mod shared_parts;
 mod symbol_dep;
+mod visited_symbols;
 
 pub use definition::{DeclRef, Definition, DefinitionKind};
 pub use definition_iter::{DefinitionOrUnresolved, DefinitionsIter, DefinitionsOrUnresolvedsIter};

@@ -185,25 +185,28 @@ pub(crate) fn builder_of_end<'a>(alloc: Global, end: DefinitionOrUnresolved<'a>)
     PathBuilder::End(Vec::new(alloc), end)
 }
 
-/// Adds a segment. The first one gets room for itself alone, since many lists have one.
+/// The number of items up to which a list gets room for one more alone, since most lists are short.
+pub(crate) const SHORT: usize = 4;
+
+/// Adds a segment.
 fn add_segment(segments: &mut Vec<Segment>, segment: Segment) -> Result<(), AllocError>
     ensures { OnOk result (segments.new.items ≡ segments.old.items ++ segment ∷ []) }
 {
-    if segments.is_empty() {
+    if segments.len() < SHORT {
         segments.reserve_exact(1)?;
     }
     segments.push(segment)?;
     Ok(())
 }
 
-/// Adds a builder. The first one gets room for itself alone, since many lists have one.
+/// Adds a builder.
 pub(crate) fn add_builder<'a>(
     builders: &mut Vec<PathBuilder<'a>>,
     builder: PathBuilder<'a>,
 ) -> Result<(), AllocError>
     ensures { OnOk result (builders.new.items ≡ builders.old.items ++ builder.entry ∷ []) }
 {
-    if builders.is_empty() {
+    if builders.len() < SHORT {
         builders.reserve_exact(1)?;
     }
     builders.push(builder)?;

@@ -222,7 +222,7 @@ pub(crate) fn copied_id(alloc: Global, id: &Id) -> Result<Id, AllocError>
 pub(crate) fn copied_parts(alloc: Global, parts: &[String]) -> Result<Vec<String>, AllocError>
     ensures { IfOk result (λ copies. strings_view copies.items ≡ strings_view parts.now) }
 {
-    let mut copies = Vec::new(alloc);
+    let mut copies = Vec::with_capacity(alloc, parts.len())?;
     for part in parts {
         copies.push(String::from_str(alloc, part.as_str())?)?;
     }

@@ -19,7 +19,8 @@ ghost use Rattle.symbols_paths.specs.inner.PathBuilders.{builders_among};
 use crate::definition::Definition;
 use crate::definition_iter::DefinitionOrUnresolved;
 use crate::path_builder::{
-    OpenedBuilder, PathBuilder, Segment, builder_of_end, join_builders, push_with_parts,
+    OpenedBuilder, PathBuilder, Segment, add_builder, builder_of_end, join_builders,
+    push_with_parts,
 };
 use crate::path_links::push_builder;
 use crate::shared_parts::SharedParts;
@@ -159,7 +160,7 @@ pub(crate) fn replace_definitions<'a>(
                 }
                 OpenedBuilder::Fork(segments, branches, last) => {
                     let mut branches = branches;
-                    branches.push(Box::into_inner(last))?;
+                    add_builder(&mut branches, Box::into_inner(last))?;
                     branches.reverse();
                     forks.push(OpenFork {
                         segments,

@@ -6,6 +6,7 @@ use crate::alias_decl::AliasDecl;
 use crate::definition::{DeclRef, Definition};
 use crate::path_builder::PathBuilder;
 use crate::shared_parts::SharedParts;
+use crate::visited_symbols::VisitedSymbols;
 use indexmap::IndexSet;
 use std::collections::VecDeque;
 use symbols_graph::ids::{ModuleId, UniqueSymbolId};
@@ -46,7 +47,7 @@ pub(crate) struct StarSearch<'a> {
 pub(crate) struct AliasSearch<'a> {
     pub(crate) here: Expansion<'a>,
     pub(crate) parts: SharedParts,
-    pub(crate) visited: IndexSet<UniqueSymbolId>,
+    pub(crate) visited: VisitedSymbols,
 }
 
 /// Paths under parts: the definitions at their ends, and the replacements of the first of these.
@@ -89,6 +90,6 @@ pub(crate) enum Step<'a> {
 #[derive(Drop)]
 pub(crate) struct SearchState<'a> {
     pub(crate) resolving: IndexSet<AliasDecl>,
-    pub(crate) visited: IndexSet<UniqueSymbolId>,
+    pub(crate) visited: VisitedSymbols,
     pub(crate) frames: VecDeque<Frame<'a>>,
 }

@@ -22,7 +22,7 @@ pub(crate) struct SharedParts {
 fn copied_strings(alloc: Global, texts: &[&str]) -> Result<Vec<String>, AllocError>
     ensures { IfOk result (λ copies. strings_view copies.items ≡ borrowed_strings_view texts.now) }
 {
-    let mut copies = Vec::new(alloc);
+    let mut copies = Vec::with_capacity(alloc, texts.len())?;
     for text in texts {
         copies.push(String::from_str(alloc, text)?)?;
     }

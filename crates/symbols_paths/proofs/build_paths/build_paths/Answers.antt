@@ -24,9 +24,9 @@ pub loop-builder-preserved-in-Fork : goal.loop-builder-preserved-in-Fork
 loop-builder-preserved-in-Fork c =
     let x = c.in-Fork in
     building_fork c.loop-builder.rest.items c.pop.new.self.items c.reverse-in-Fork.new.self.items c.loop-builder.forks.items
-    c.push-in-Fork.new.self.items x.segments x.branches x.last c.in-Some.builder _ c.in-Some.ensures.items x.ensures
-    (c.reverse-in-Fork.ensures.items ∙ ap reverse (c.in_ok-push-in-Fork.ensures.items ∙ ap (λ b. x.branches.items ++ b ∷ []) c.into_inner.ensures))
-    c.in_ok-push-in-Fork-2.ensures.items refl refl refl c.new-paths-in-Fork.ensures.items c.loop-builder.invariant
+    c.push.new.self.items x.segments x.branches x.last c.in-Some.builder _ c.in-Some.ensures.items x.ensures
+    (c.reverse-in-Fork.ensures.items ∙ ap reverse (c.in_ok-add_builder-in-Fork.ensures ∙ ap (λ b. x.branches.items ++ b ∷ []) c.into_inner.ensures))
+    c.in_ok-push-in-Fork.ensures.items refl refl refl c.new-paths-in-Fork.ensures.items c.loop-builder.invariant
 
 pub loop-builder-preserved : goal.loop-builder-preserved
 loop-builder-preserved c =
@@ -42,10 +42,10 @@ loop-builder-smaller-in-End c =
 pub loop-builder-smaller-in-Fork : goal.loop-builder-smaller-in-Fork
 loop-builder-smaller-in-Fork c =
     let x = c.in-Fork in
-    fork_smaller c.loop-builder.rest.items c.pop.new.self.items c.reverse-in-Fork.new.self.items c.loop-builder.forks.items c.push-in-Fork.new.self.items
+    fork_smaller c.loop-builder.rest.items c.pop.new.self.items c.reverse-in-Fork.new.self.items c.loop-builder.forks.items c.push.new.self.items
     x.segments x.branches x.last c.in-Some.builder _ c.in-Some.ensures.items x.ensures
-    (c.reverse-in-Fork.ensures.items ∙ ap reverse (c.in_ok-push-in-Fork.ensures.items ∙ ap (λ b. x.branches.items ++ b ∷ []) c.into_inner.ensures))
-    c.in_ok-push-in-Fork-2.ensures.items refl
+    (c.reverse-in-Fork.ensures.items ∙ ap reverse (c.in_ok-add_builder-in-Fork.ensures ∙ ap (λ b. x.branches.items ++ b ∷ []) c.into_inner.ensures))
+    c.in_ok-push-in-Fork.ensures.items refl
 
 pub loop-builder-smaller : goal.loop-builder-smaller
 loop-builder-smaller c =
