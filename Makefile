@@ -9,7 +9,7 @@ SEEDS ?= 0..2000
 .PHONY: help run try check test symq lib wrong packages evidence crate clean setup
 
 help:
-	@echo 'make run [FOLDER=DIR]            the public names of a directory, else of examples/first, by an unverified build: about a minute once'
+	@echo 'make run [FOLDER=DIR]            the public names of a directory, else of examples/first, by an unverified build: a minute or two once'
 	@echo 'make try GRAPH=g.json QUERIES=q  the answers to the lines of q on a graph, by that build'
 	@echo 'make check                       all tests that need no proof, on an unverified build: six minutes'
 	@echo 'make symq                        proves and builds the program, as ./symq: 16 minutes on four processors'
