@@ -99,7 +99,8 @@ const SHOWN = [
   '(): H => null!', '(a: H) => 1', '(...a: H[]) => 1', '<T extends H>(a: T) => 1', '<T = H>(a: T) => 1', 'async (a: H) => {}', 'function (a: H): void {}', 'function (): H { return null!; }',
   '(a: number) => (b: H) => 1', '() => null! as H', '(a: string, b = null! as H) => 1', '(a = (b: H) => 1) => 1', '({ a }: H) => 1', '([a]: H[] = []) => 1', 'null! as H', '(null! as H)',
   '<H>null!', '[null! as H]', '[...(null! as H[])]', '{ a: null! as H }', '{ a: [{ b: (c: H) => 1 }] }', '{ f(a: H) {} }', '{ get g(): H { return null!; } }', '{ set s(a: H) {} }', '{ ["a"](b: H) {} }',
-  '[(a: H) => 1] as const', '{ a: (b: H) => 1 } as const', 'class { a!: H }', 'class { m(a: H) {} }', 'class { get g(): H { return null!; } }', 'class { static s = (a: H) => 1 }',
+  '[(a: H) => 1] as const', '{ a: (b: H) => 1 } as const',
+  '[(a: H) => 1] /* as */ as /* const */ const', '<const>[(a: H) => 1]', '< /* const */ const > { a: (b: H) => 1 }', 'class { a!: H }', 'class { m(a: H) {} }', 'class { get g(): H { return null!; } }', 'class { static s = (a: H) => 1 }',
   'class { constructor(a: H) {} }', 'class { constructor(readonly a: H) {} }', 'class { [a: string]: H }', 'class<T extends H> { t!: T }', 'new Box<H>()', 'new Box<Box<H>>(null!)',
   'null! as { a: (b: H) => 1 }', '(a: keyof H) => 1', '(a: Box<H>) => 1',
 ];
@@ -128,6 +129,20 @@ test('types in an initializer count that TypeScript puts into the declaration', 
   assert.deepEqual(places, wanted.map((it) => `index.ts:${Number(it.slice(1)) + 1}:11`).sort());
   const { leaks } = answer(['leaks', folder, '--entry', 'index.ts']);
   assert.deepEqual(leaks.map((/** @type {any} */ it) => [it.name, it.neededBy]).sort(), wanted.map((it) => [it, [it.replace('H', 'v')]]).sort());
+});
+
+test('of several declarations of a name an initializer counts where TypeScript puts its types into one of them', () => {
+  const rows = ['export function v(it = (x: H) => 1) {}\nexport namespace v { export const y = 1 }', 'export var v = (it: H) => 1;\nexport var v: (it: any) => number;',
+    'export var v: (it: any) => number;\nexport var v = (it: H) => 1;', 'export function v(it: any): void;\nexport function v(it = (x: H) => 1) {}', 'export class v { m(it: any): void; m(it = (x: H) => 1) {} }',
+    'export class v { constructor(it: any); constructor(it = (x: H) => 1) {} }', 'export class v { a = (x: H) => 1 }\nexport namespace v { export const y = 1 }', 'export interface v { y: 1 }\nexport const v = (it: H) => 1;'];
+  const text = rows.map((it, i) => `${it.replace(/\bH\b/g, `H${i}`).replace(/\bv\b/g, `v${i}`)}\ninterface H${i} { a: string }\n`).join('');
+  const files = { 'index.ts': text, 'globals.d.ts': GLOBALS };
+  const folder = folderOf(files);
+  const { service } = new Language(folder, Object.keys(files), { declaration: true });
+  const [{ text: declared }] = service.getEmitOutput(`${folder}/index.ts`, true, true).outputFiles;
+  const wanted = rows.map((_, i) => `H${i}`).filter((it) => declared.includes(`interface ${it} {`));
+  assert.deepEqual(wanted, ['H0', 'H1', 'H6', 'H7'], declared);
+  assert.deepEqual(answer(['leaks', folder, '--entry', 'index.ts']).leaks.map((/** @type {any} */ it) => it.name).sort(), wanted);
 });
 
 /** @param {string} text of index.ts, where types that users can't import are called `H` and a number @param {Record<string, string>} [files] */

@@ -106,6 +106,15 @@ function writtenIn(folder, { module, start, end }) {
 
 /** Declarations that may have initializers. */
 const INITIALIZED = new Set(['const', 'let', 'var', 'using', 'property', 'accessor', 'function', 'method', 'constructor', 'default']);
+/** Of these several are overloads, of which none has a type that isn't written. */
+const CALLED = new Set(['function', 'method', 'constructor']);
+
+/** @param {Folder} folder @param {Definition[]} own the declarations of a symbol @returns {Definition | null} the one whose initializers tell its type: of variables the first; null where none does */
+function typedBy(folder, own) {
+  const kindOf = (/** @type {Definition} */ it) => folder.declaration(it)?.kind ?? '';
+  const [first, ...more] = own.filter((it) => INITIALIZED.has(kindOf(it)));
+  return first === undefined || (more.length > 0 && CALLED.has(kindOf(first))) ? null : first;
+}
 
 /**
  * Finds what the types refer to that are written in initializers.
@@ -119,10 +128,8 @@ async function initialized(folder, all) {
   const asked = new Map();
   mine.forEach((of, i) => {
     const own = leaves[i].filter(isDefinition).filter((it) => it.module === of.module && it.symbol === of.symbol);
-    // of several declarations, as of overloads, none has a type that isn't written
-    const [only] = own;
-    if (own.length !== 1 || !INITIALIZED.has(folder.declaration(only)?.kind ?? '')) return;
-    asked.set(of.module, [...asked.get(of.module) ?? [], { of, at: `${only.start} ${only.end}` }]);
+    const found = typedBy(folder, own);
+    if (found) asked.set(of.module, [...asked.get(of.module) ?? [], { of, at: `${found.start} ${found.end}` }]);
   });
   return [...asked].flatMap(([module, rows]) => {
     const tree = Tree.of(/** @type {import('../folder/sources.js').Module} */ (folder.sources.modules.get(module)));

@@ -112,9 +112,10 @@ export class Initializers {
     if (first === undefined) return;
     const beginning = this.text(start, Math.min(end, start + SHORT));
     const [from, to] = this.node(first).range;
+    const isConst = parts.length === 1 && (/\bconst$/.test(this.text(to, end)) || /^<[^>]*\bconst\b/.test(this.text(start, from)));
     if (parts.length === 2 && TYPES.has(this.node(second).kind)) this.pushAll([first], [second]);
     else if (/^new\s/.test(beginning)) this.pushAll([], parts.filter((/** @type {number} */ it) => this.node(it).kind === 'TsTypeParamInstantiation'));
-    else if (from === start && parts.length === 1 && /^\s*as\s+const$/.test(this.text(to, end))) this.pushAll([first], []);
+    else if (isConst) this.pushAll([first], []);
     else if (from > start && /^[([{]/.test(beginning)) for (const it of parts) this.part(it, beginning[0] === '{');
   }
 
