@@ -36,6 +36,80 @@ test('of a function with one overload and a body the overload alone is its signa
   assert.deepEqual(names.map((/** @type {any} */ it) => `${it.name}${it.signature}`), ['f(a: string): string', 'g(b: 1): 2 & (b: 3): 4', 'h(c: 5): 6']);
 });
 
+test('the JSON in --help is in brackets that are closed, with nothing right behind them', () => {
+  for (const it of ['api', 'leaks', 'missing', 'where', 'web', 'unused', 'uses', 'diff', 'cycles', 'affected']) {
+    const [, form] = help(it).split('\nJSON:\n');
+    const [text] = form.split('\n\nExit status: ');
+    assert.doesNotMatch(text, /[\]}][\w{[]|[{[]\s*[,:\]}]|[,:]\s*[,:\]}]/, it);
+    let open = '';
+    for (const one of text.match(/[{}[\]]/g) ?? []) {
+      if ('{['.includes(one)) open += one;
+      else {
+        assert.equal(open.at(-1), one === '}' ? '{' : '[', it);
+        open = open.slice(0, -1);
+      }
+    }
+    assert.equal(open, '', it);
+  }
+});
+
+test('a name that nothing declares is told as such: a global, and one in a ring of modules', () => {
+  const folder = folderOf({ 'index.ts': 'let b: nowhere;\nexport { x } from "./b";\n', 'b.ts': 'export { x } from "./index";\n' });
+  assert.deepEqual(symdir(['uses', folder, 'index.ts:1:8']), { status: 1, stderr: '', stdout: 'no name that the analyzed modules declare at index.ts:1:8\n' });
+  assert.deepEqual(symdir(['api', folder]).stdout.split('\n')[1].trim().split(/ +/), ['x', 'no', 'definition']);
+});
+
+test('a member called `default` of what stands behind `export =` isn\'t listed beside the default export', () => {
+  const folder = folderOf({ 'index.d.ts': 'declare namespace c { const a: 1, b: 2; export { a as default, b }; }\nexport = c;\n' });
+  for (const words of [['api', folder], ['api', folder, '--docs'], ['affected', folder, 'index.d.ts']]) {
+    assert.deepEqual(answer(words).names.map((/** @type {any} */ it) => `${it.kind} ${it.name}`), ['namespace default', 'const b'], words.join(' '));
+  }
+  const file = `${folder}/api.txt`;
+  assert.equal(symdir(['api', folder, '--save', file]).stdout, `${file}: 2 public names\n`);
+});
+
+test('by which statements a name comes: along `export *`, and then by one for a whole module', () => {
+  const folder = folderOf({ 'index.ts': 'export * from "./a";\n', 'a.ts': 'export * as b from "./b";\nexport import c = require("./b");\n', 'b.ts': 'export const d = 1;\n' });
+  assert.deepEqual(symdir(['api', folder]).stdout.split('\n').slice(1, 3), [
+    '  b  namespace  b.ts:1:1  export * from "./a", export * as b from "./b" in a.ts:1:8',
+    '  c  namespace  b.ts:1:1  export * from "./a", import c = require("./b") in a.ts:2:1']);
+});
+
+test('of a property without a type its question mark alone is its signature', () => {
+  const [{ members }] = answer(['api', folderOf({ 'index.ts': 'export class A { b?; c; d?: 1; e? = 1; f? = (a: 1) => 2; g = a ? 1 : 2; ["h"]? }\n' }), '--docs']).names;
+  assert.deepEqual(members.map((/** @type {any} */ it) => `${it.name}${it.signature}`), ['A#b?', 'A#c', 'A#d?: 1', 'A#e?', 'A#f(a: 1)', 'A#g', 'A#h?']);
+  // a constructor may be the last node of its module
+  const [last] = answer(['api', folderOf({ 'index.d.ts': 'export declare class A { constructor(); }\n' }), '--docs']).names;
+  assert.deepEqual(last.members.map((/** @type {any} */ it) => `${it.name} ${it.signature}`), ['A constructor ()']);
+});
+
+test('unused: what people read of what its own file uses, and of dependencies that unread JavaScript may import', () => {
+  const folder = folderOf({ 'package.json': '{ "types": "index.d.ts",\n"dependencies": { "a": "1", "b": "1" } }', 'index.d.ts': 'import "./c";\nimport "a";\n', 'index.js': 'require("b");\n', 'c.ts': 'export const c = 1;\nexport const d = c;\n' });
+  assert.deepEqual(symdir(['unused', folder]).stdout.split('\n').slice(0, 5).map((it) => it.replace(/ {2,}/g, '  ')), [
+    'unused exports: 2', '  c  const  c.ts:1:14  used in its own file', '  d  const  c.ts:2:14', 'dependencies that only unread JavaScript may import (--js reads it): 1', '  b  package.json:2:29']);
+});
+
+test('each name is told under its entry, and no other', () => {
+  const folder = folderOf({ 'a.ts': 'export const x = 1;\n', 'b.ts': 'export const y = 1;\n' });
+  assert.equal(symdir(['api', folder]).stdout, 'a.ts: 1 public name, defined in 1 file\n  x  const  a.ts:1:14\nb.ts: 1 public name, defined in 1 file\n  y  const  b.ts:1:14\n');
+  assert.deepEqual(symdir(['affected', folder, 'a.ts', 'b.ts']).stdout.split('\n').slice(1, 5), [
+    'a.ts: 1 public name can change, and which there are', '  x  const  a.ts:1:14', 'b.ts: 1 public name can change, and which there are', '  y  const  b.ts:1:14']);
+});
+
+test('`uses` ends with 0 where it finds one, though another file can\'t be parsed', () => {
+  const folder = folderOf({ 'index.ts': 'export const a = 1;\nexport const b = a;\n', 'bad.ts': 'let;\nconst = 1;\n' });
+  const at = (/** @type {string} */ place) => symdir(['uses', folder, place]);
+  assert.deepEqual([at('index.ts:1').status, at('index.ts:2:14').status, at('index.ts:1').stderr], [0, 1, at('index.ts:2').stderr]);
+  assert.match(at('index.ts:1').stderr, /^symdir: bad\.ts:2:7: /);
+});
+
+test('--help has the JSON of --baseline where it has the option', () => {
+  const commands = [...help().matchAll(/^ {2}symdir (\w+) /gm)].map(([, name]) => name);
+  const taking = commands.filter((it) => /^ {2}--baseline FILE /m.test(help(it)));
+  assert.deepEqual([...new Set(taking)].sort(), ['api', 'cycles', 'diff', 'leaks', 'missing', 'unused']);
+  for (const it of commands) assert.equal(/^ {2}with --baseline also baseline: /m.test(help(it)), taking.includes(it), it);
+});
+
 test('--help has the JSON of --watch where it has the option', () => {
   const commands = [...symdir(['--help']).stdout.matchAll(/^ {2}symdir (\w+) /gm)].map(([, name]) => name);
   const watching = commands.filter((it) => /^ {2}symdir .* --watch$/m.test(help(it)));

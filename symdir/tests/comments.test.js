@@ -99,7 +99,7 @@ test('stars before lines are no text, and other ones are', () => {
 
 test('the first sentence of a comment', () => {
   const cases = [['Adds, e.g. two. Then more.', 'Adds, e.g. two.'], ['One\nline. Two', 'One line.'], ['@internal', ''], ['No end\n@param a b', 'No end'], ['A {@link B} and {@link C | the c}. D', 'A B and the c.'],
-    ['Has `a. B` in it. Next', 'Has `a. B` in it.'], ['A list:\n- one', 'A list:'], ['', '']];
+    ['Has `a. B` in it. Next', 'Has `a. B` in it.'], ['A list:\n- one', 'A list:'], ['No end  \n\nMore.', 'No end'], ['', '']];
   for (const [doc, wanted] of cases) assert.equal(firstSentence(doc), wanted);
 });
 

@@ -105,6 +105,8 @@ test('what is wrong is refused with its place', () => {
   assert.equal(said('{ "check": "a" }'), 'symdir: symdir.json:1:3: check can be set in "api" only\n');
   assert.match(said('{ "skip": "(" }'), /^symdir: symdir\.json:1:11: skip: Invalid regular expression/);
   assert.match(said('{ "json": true,\n "all" true }'), /^symdir: symdir\.json:2:8: /);
+  // of a key that stands twice the last one counts
+  assert.equal(said('{ "json": true,\n "json": 1 }'), 'symdir: symdir.json:2:10: json: expected true or false\n');
   assert.equal(said('[]'), 'symdir: symdir.json:1:1: expected an object with options\n');
   assert.equal(said(' null'), 'symdir: symdir.json:1:2: expected an object with options\n');
   assert.equal(said('{\n "name": "a",\n "symdir": { "jsn": 1 } }', 'package.json'), 'symdir: package.json:3:14: unknown option jsn\n');
@@ -113,6 +115,10 @@ test('what is wrong is refused with its place', () => {
   // a fault of package.json itself is a finding, as ever
   const { status, stderr } = symdir(['api', folderOf({ ...FILES, 'package.json': '{ "symdir": { "json" } }' })]);
   assert.deepEqual([status, stderr.split(':')[1]], [1, ' package.json']);
+});
+
+test('a byte order mark before the text is none of it, and one within it is', () => {
+  for (const mark of ['', '\ufeff']) assert.deepEqual(configured('unused', COMMANDS, folderWith(`${mark}{ "skip": ["a\ufeffb"] }`), {}), { skip: ['a\ufeffb'] });
 });
 
 test('a directory can\'t say which programs are run, and which files are written', () => {

@@ -127,6 +127,17 @@ test('a chain with a question mark is none of names alone', () => {
   assert.deepEqual([others('a.b; a["b"];'), others('a?.b;'), others('a?.b.c;'), others('a.b?.["c"];')], [[], ['a?.b'], ['a?.b.c', 'a?.b'], ['a.b?.["c"]']]);
 });
 
+test('a key in brackets begins with its bracket, behind an object too', () => {
+  const keys = (/** @type {string} */ text) => nodes(text).filter((it) => it.kind === 'Computed').map(({ range: [start, end] }) => text.slice(start, end));
+  assert.deepEqual(['a["b"];', 'a?.["b"];', 'a /* [ */ [ b][c];', '({ [a]: b });', 'class A { [b] = 1; }'].map(keys), [['["b"]'], ['["b"]'], ['[ b]', '[c]'], ['[a]'], ['[b]']]);
+});
+
+test('a parameter of a signature has no default value in a tree', () => {
+  const kinds = nodes('interface A { b(c = 1): 1; (d = 2): 1 } type E = (f = 3) => 1; declare class G { h(i?: 4): 1 }').map((/** @type {any} */ it) => it.kind);
+  assert.deepEqual(kinds.filter((/** @type {string} */ it) => /^(AssignPat|Num)$/.test(it)), []);
+  assert.equal(kinds.filter((/** @type {string} */ it) => it === 'BindingIdent').length, 4);
+});
+
 test('a module has `export =` where it stands at the top, and nowhere else', () => {
   const equals = (/** @type {string} */ text) => nodesOf('a.d.ts', text, { ...languageOf('a.d.ts'), ...PLAIN }).equals;
   assert.deepEqual(['export = a;', 'export = a.b.c;', 'export = 1;', 'export default a;', 'declare module "m" { export = a; }', 'export as namespace a;'].map(equals),

@@ -42,6 +42,9 @@ test('three modules of a directory that are re-exported alike share a box, and o
   assert.deepEqual([web(alike(2)), web(alike(3)), web(alike(9))], [3, 2, 2]);
   assert.equal(web([...alike(2), 'y/m.ts']), 4);
   assert.equal(web(alike(3), (i) => i > 0), 4);
+  // whichever of the arrows that lead there comes first
+  const twice = alike(3).flatMap((it, i) => [['index.ts', it, true, ['a']], ['z.ts', it, false, ['a']]].sort(() => (i > 0 ? 1 : -1)));
+  assert.equal(boxesIn(drawn(Object.fromEntries(alike(3).map((it) => [it, ['a']])), [['index.ts', 'z.ts', true, ['a']], .../** @type {any[]} */ (twice)])).length, 3);
   // one that re-exports itself, an entry and one that lacks something stand alone
   const owned = Object.fromEntries(alike(4).map((it) => [it, ['a']]));
   const edges = /** @type {[string, string, boolean, string[]][]} */ (alike(4).map((it) => ['index.ts', it, true, ['a']]));
@@ -115,6 +118,8 @@ test('boxes are titled by the file, or by its path where another has its name, a
   assert.match(own, /href="#file=x\/"/);
   assert.match(own, /HREF="#file=x\/b\.ts"/);
   assert.match(own, /labelloc=t/);
+  // the look of all boxes and arrows that say no other
+  assert.deepEqual([...text.matchAll(/^(node|edge) \[(.*)\];$/gm)].map(([, what, list]) => `${what}: ${list.match(/\w+(?==)/g)}`), ['node: shape,fontname,fontsize', 'edge: color,arrowsize,fontname,fontsize']);
   assert.doesNotMatch(own, /An arrow leads/);
   assert.match(text, /label="shop: 5 modules that entries reach\\nAn arrow leads from a module to the one whose names it re-exports/);
 });

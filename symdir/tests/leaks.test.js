@@ -70,6 +70,11 @@ test('of a value that is exported as `default` the types count that are written 
   assert.deepEqual(leaks.map((/** @type {any} */ it) => `${it.file}:${it.line}:${it.column}`).sort(), wanted);
 });
 
+test('modules that export each other as a whole are each looked at once', () => {
+  const folder = folderOf({ 'index.ts': 'export * as n from "./n";\n', 'n.ts': 'export * as m from "./m";\nexport declare const a: H;\ninterface H {}\n', 'm.ts': 'export * as n from "./n";\nexport * as i from "./index";\n' });
+  assert.deepEqual(answer(['leaks', folder]).leaks.map((/** @type {any} */ it) => [it.name, it.neededBy]), [['H', ['a']]]);
+});
+
 test('an import type counts, and a type within another that leaks doesn\'t, as by TypeScript', () => {
   const files = {
     'index.ts': 'import B from "./b";\nexport declare const all: { f: typeof import("./a").f; d: import("./d").Deep.Inner; b: B; options: B.Options };\n',

@@ -39,6 +39,18 @@ test('cycles: the shortest is told where it is shorter, and statements of one im
     'b.ts': 'import { a } from "./a";\nimport { c } from "./c";\nexport const b = () => [a, c];\n', 'c.ts': 'import { a } from "./a";\nexport const c = () => a;\n' });
   assert.deepEqual(linesOf('cycles', folder), ['import cycles: 1', '  3 modules, the shortest of 2', '    a.ts:1:1  import "./b"  b.ts', '    b.ts:1:1  import "./a"  a.ts',
     '    cut a.ts:1:1 import "./b" and 1 more of it: breaks all of it', '3 modules, 4 imports between them: 1 import cycle']);
+  // the import of c.ts leaves a cycle of the two others
+  const two = folderOf({ 'c.ts': 'import "./d";\n', 'd.ts': 'import "./c";\nimport "./e";\n', 'e.ts': 'import "./d";\n' });
+  assert.equal(linesOf('cycles', two)[4], '    cut c.ts:1:1 import "./d": takes 1 module out of cycles');
+});
+
+test('affected: three files by name, and twenty modules', () => {
+  const all = range(21).map((it) => `m${it}.ts`);
+  const folder = folderOf({ 'index.ts': 'export const a = 1;\n', ...Object.fromEntries(all.map((it) => [it, 'export {};\n'])) });
+  const lines = (/** @type {number} */ count, /** @type {string[]} */ ...words) => linesOf('affected', folder, ...all.slice(0, count), ...words);
+  assert.deepEqual(lines(3).slice(0, 2), ['3 files changed: m01.ts, m02.ts, m03.ts', 'answers on 3 modules can change:']);
+  assert.deepEqual([lines(4)[0], lines(4, '--all')[0]], ['4 files changed: m01.ts, m02.ts, m03.ts and 1 more', '4 files changed: m01.ts, m02.ts, m03.ts, m04.ts']);
+  assert.deepEqual([lines(20).length, lines(20).at(-1), lines(21).length, lines(21).at(-1), lines(21, '--all').length], [22, '  m20.ts  exports, definitions', 23, '  and 1 more (--all)', 23]);
 });
 
 test('unused: twenty of each sort', () => {
@@ -58,6 +70,15 @@ test('leaks: four of those that need a type, the most needed first, and each typ
   assert.equal(linesOf('leaks', files(4))[1], '    referenced by c01, c02, c03, c04');
   const within = folderOf({ 'index.ts': 'declare namespace N { namespace M { interface A {} } interface B {} }\nexport declare const a: N.M.A, b: N.B, n: typeof N;\ndeclare namespace P { interface A {} }\nexport declare const p: P.A;\n' });
   assert.deepEqual(answer(['leaks', within]).leaks.map((/** @type {any} */ it) => it.name), ['N', 'P.A']);
+});
+
+test('leaks: lines of up to 92 characters behind four spaces, and six from the second on', () => {
+  const lines = (/** @type {number} */ length) => {
+    const names = [`a${'x'.repeat(39)}`, `b${'x'.repeat(length - 'referenced by '.length - 40 - ', '.length - 1)}`];
+    return linesOf('leaks', folderOf({ 'index.ts': `export declare const ${names.map((it) => `${it}: T`).join(', ')};\ninterface T {}\n` })).slice(1, -1);
+  };
+  assert.deepEqual([lines(92).map((it) => it.length), lines(93).map((it) => it.length)], [[4 + 92], [4 + 'referenced by ,'.length + 40, 6 + 93 - 'referenced by , '.length - 40]]);
+  assert.match(lines(93)[1], /^ {6}bx+$/);
 });
 
 test('leaks: entries by name up to three, and else their number', () => {

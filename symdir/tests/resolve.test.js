@@ -274,6 +274,9 @@ test('tsconfig: what it extends, by each ending, in node_modules above, of sever
   // of several the last one's words count, and each counts for what the later ones don't say
   const several = (/** @type {string[]} */ ...above) => at({ 'x/tsconfig.json': { extends: above.map((it) => `../${it}/base.json`) }, 'y/base.json': y, 'z/base.json': options({ baseUrl: '.' }), 'w/base.json': options({ strict: true }) });
   assert.deepEqual([several('y', 'z'), several('z', 'y'), several('y', 'w')], ['z/b.ts', 'y/b.ts', 'y/b.ts']);
+  // twenty files may stand one behind the other
+  const chain = Object.fromEntries(Array.from({ length: 20 }, (_, i) => [`y/c${i}.json`, i < 19 ? { extends: `./c${i + 1}` } : y]));
+  assert.equal(at({ 'x/tsconfig.json': { extends: '../y/c0' }, ...chain }), 'y/b.ts');
   // a ring ends
   assert.equal(at({ 'x/tsconfig.json': { extends: '../y/base.json' }, 'y/base.json': options({ baseUrl: '.' }, '../x/tsconfig.json') }), 'y/b.ts');
   // tsconfig.json goes before jsconfig.json

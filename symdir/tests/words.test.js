@@ -95,10 +95,12 @@ test('`default` of other declaration files: that of a module of ECMAScript lacks
 });
 
 test('names along several modules with `export =`, each of which passes on the next', () => {
-  const next = (/** @type {string} */ to) => `import x = require("./${to}");\nexport = x;\n`;
-  const chain = Object.fromEntries(Array.from({ length: 9 }, (_, i) => [`m${i}.d.ts`, next(i < 8 ? `m${i + 1}` : 'c')]));
-  const folder = agree({ 'index.ts': 'export { I, f, inner } from "./m0";\n', ...chain, 'c.d.ts': EQUALS });
-  assert.deepEqual(answer(['missing', folder]).missing, []);
+  // symq follows the one import itself, and the other is followed up to sixteen times
+  for (const [count, next] of /** @type {[number, (to: string) => string][]} */ ([[9, (to) => `import x = require("./${to}");\n`], [15, (to) => `import * as x from "./${to}";\n`]])) {
+    const chain = Object.fromEntries(Array.from({ length: count }, (_, i) => [`m${i}.d.ts`, `${next(i < count - 1 ? `m${i + 1}` : 'c')}export = x;\n`]));
+    const folder = agree({ 'index.ts': 'export { I, f, inner } from "./m0";\n', ...chain, 'c.d.ts': EQUALS });
+    assert.deepEqual(answer(['missing', folder]).missing, []);
+  }
 });
 
 test('a name that a namespace of a module with `export =` lacks isn\'t looked for behind it', () => {
