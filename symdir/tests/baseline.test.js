@@ -1,6 +1,6 @@
 // Findings that are accepted.
 import assert from 'node:assert/strict';
-import { readFileSync, writeFileSync } from 'node:fs';
+import { readFileSync, symlinkSync, writeFileSync } from 'node:fs';
 import path from 'node:path';
 import test from 'node:test';
 
@@ -17,6 +17,7 @@ test('what is accepted is no finding; what comes is one, and what went is told',
   assert.deepEqual(symdir(['unused', folder, '--baseline', file, '--save-baseline']), { status: 0, stdout: `${file}: 2 findings of unused\n`, stderr: '' });
   assert.deepEqual(read(file), [{ rule: 'unused/export', file: 'a.ts', name: 'b' }, { rule: 'unused/export', file: 'a.ts', name: 'c' }]);
   assert.deepEqual(symdir(['unused', folder, '--baseline', file]), { status: 0, stdout: `2 modules, 1 entry: nothing is unused\n${file}: 2 findings accepted\n`, stderr: '' });
+  assert.match(symdir(['unused', folder, '--baseline', file, '--markdown']).stdout, /\*\*\n\n[^\n]*accepted\n$/);
   // the lines move, one goes, another comes
   writeFileSync(path.join(folder, 'a.ts'), `\n\n${FILES['a.ts'].replace('c = 1', 'd = 1')}`);
   const { status, stdout } = symdir(['unused', folder, '--baseline', file]);
@@ -63,9 +64,11 @@ test('of several alike as many are accepted as there were', () => {
   assert.match(symdir(['missing', folder, '--baseline', file]).stdout, /1 finding accepted, 1 no longer occurs/);
 });
 
-test('each command takes a baseline: changes, cycles, names, and files that can\'t be parsed', () => {
+test('each command takes a baseline: changes, cycles, names, and files that can\'t be parsed or read', () => {
   const faulty = { 'index.ts': 'export * from "./gone";\nimport "./b";\n', 'b.ts': 'import "./index";\n', 'c.ts': 'let;\nconst = 1;\n' };
   const folder = folderOf(faulty);
+  // it is there, and a read of it fails for whoever reads
+  symlinkSync('/proc/self/mem', path.join(folder, 'mem.ts'));
   const file = path.join(folder, 'accepted.json');
   const commands = [['api', folder], ['cycles', folder], ['missing', folder], ['unused', folder], ['leaks', folder], ['diff', folderOf({ 'index.ts': 'export const a = 1, b = 2;\n' }), folder]];
   for (const words of commands) {
@@ -77,7 +80,7 @@ test('each command takes a baseline: changes, cycles, names, and files that can\
     assert.equal(stderr, words[0] === 'diff' ? symdir(words).stderr : '');
   }
   assert.deepEqual(read(file).map((/** @type {any} */ it) => it.rule), [
-    'api/unresolved', 'cycles/cycle', 'diff/major', 'diff/major', 'files/syntax', 'missing/file', 'unused/file']);
+    'api/unresolved', 'cycles/cycle', 'diff/major', 'diff/major', 'files/syntax', 'files/unreadable', 'missing/file', 'unused/file']);
   writeFileSync(path.join(folder, 'c.ts'), 'let = ;\n');
   assert.equal(symdir(['leaks', folder, '--baseline', file]).status, 1);
 });

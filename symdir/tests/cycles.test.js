@@ -83,6 +83,11 @@ test('with verbatimModuleSyntax an import stays unless `type` stands before all 
   assert.deepEqual(found({ 'tsconfig.json': base(true) }), [['a.ts b.ts', 'e.ts f.ts'], ['c.ts d.ts']]);
   assert.deepEqual(found({ 'tsconfig.json': '{ "extends": ["./on.json"] }', 'on.json': base(true) }), [['a.ts b.ts', 'e.ts f.ts'], ['c.ts d.ts']]);
   assert.deepEqual(found({ 'tsconfig.json': '{ "extends": "./on.json", "compilerOptions": { "verbatimModuleSyntax": false } }', 'on.json': base(true) }), [[], all]);
+  const chain = Object.fromEntries(Array.from({ length: 20 }, (_, i) => [`c${i}.json`, i < 19 ? `{ "extends": "./c${i + 1}" }` : base(true)]));
+  assert.deepEqual(found({ 'tsconfig.json': '{ "extends": "./c0" }', ...chain }), [['a.ts b.ts', 'e.ts f.ts'], ['c.ts d.ts']]);
+  // of several that it extends the last one that says it counts, and a module belongs to the nearest tsconfig.json
+  const several = (/** @type {string[]} */ ...all) => found({ 'tsconfig.json': JSON.stringify({ extends: all.map((it) => `./${it}`) }), 'on.json': base(true), 'off.json': base(false), 'none.json': '{}' })[0].length;
+  assert.deepEqual([several('on', 'off'), several('off', 'on'), several('on', 'none')], [0, 2, 2]);
   // a version that knows the option emits so
   if (Number(ts.versionMajorMinor.split('.')[0]) < 5) return;
   const emitted = edgesBy(new Language(folderOf(files), Object.keys(files).filter((it) => it.endsWith('.ts')), { verbatimModuleSyntax: true }), true);

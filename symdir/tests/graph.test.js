@@ -31,6 +31,24 @@ test('--js: a module of JavaScript has the types that stand beside it', () => {
   assert.deepEqual(out.modules.map((/** @type {any} */ it) => it.types ?? null), [null, 'file:///a.d.ts']);
 });
 
+test('JavaScript of a package that names its types: it is left out, and by --js its main module has these types', () => {
+  const files = (/** @type {object} */ json) => ({ 'package.json': JSON.stringify(json), 't.d.ts': 'export declare const a: 1;', 'm.js': 'export const a = 1;', 'lib/x.js': '', 'y.ts': '', 'in/package.json': '{}', 'in/z.js': '' });
+  const specifiers = (/** @type {object} */ json) => graph(files(json)).modules.map((/** @type {any} */ it) => it.specifier.slice('file:///'.length));
+  for (const it of ['types', 'typings']) assert.deepEqual(specifiers({ [it]: './t.d.ts', main: 'm.js' }), ['in/z.js', 't.d.ts', 'y.ts'], it);
+  for (const it of [{ types: 'gone.d.ts' }, { types: 5 }, {}]) assert.deepEqual(specifiers(it), ['in/z.js', 'lib/x.js', 'm.js', 't.d.ts', 'y.ts'], JSON.stringify(it));
+  const typed = (/** @type {object} */ json) => graph(files(json), '--js').modules.filter((/** @type {any} */ it) => it.types).map((/** @type {any} */ it) => `${it.specifier} ${it.types}`);
+  for (const it of ['types', 'typings']) assert.deepEqual(typed({ [it]: 't.d.ts', main: './m' }), ['file:///m.js file:///t.d.ts'], it);
+  assert.deepEqual([typed({ types: 't.d.ts', main: './lib/x.js' }), typed({ types: 'gone.d.ts', main: 'm.js' }), typed({ types: 't.d.ts', main: 'none' })], [['file:///lib/x.js file:///t.d.ts'], [], []]);
+});
+
+test('a module beside the directory is one that isn\'t read, by its own path', () => {
+  for (const [text, wanted] of Object.entries({ '../b': 'file://TOP/b.ts', '../node_modules/p/c': 'file:///node_modules/p/c.ts', 'p/c': 'npm:p/c' })) {
+    const top = folderOf({ 'dir/a.ts': `import "${text}";\n`, 'b.ts': '', 'node_modules/p/c.ts': '' });
+    const { resolutions, modules } = JSON.parse(symdir(['graph', path.join(top, 'dir')]).stdout.replaceAll(top, 'TOP'));
+    assert.deepEqual([resolutions, modules.map((/** @type {any} */ it) => it.kind)], [[['file:///a.ts', text, wanted]], ['esm', 'external']], text);
+  }
+});
+
 test('--bodies keeps what stands in the bodies of functions', () => {
   const count = (/** @type {any} */ it) => it.modules[0].tree.nodes.filter((/** @type {any} */ node) => node.kind === 'VarDecl').length;
   const files = { 'a.ts': 'function f() { const a = 1; }' };

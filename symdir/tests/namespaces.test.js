@@ -32,6 +32,7 @@ const TEXTS = [
   `export declare namespace N { const hidden: 1; namespace H { const inner: 1; interface I { a: 1 } } namespace M { const z: 1 } export { M }; }`,
   `export declare namespace N { const hidden: 1; export {}; }`,
   `export declare namespace N { import q = O.x; export import r = O.x; export import M = O.M; const a: 1; }\ndeclare namespace O { const x: 1; namespace M { const y: 1 } }`,
+  `export declare namespace N { export import r = O.x; const a: 1; }\ndeclare namespace O { const x: 1 }`,
   `declare namespace N { export { a, b as c, O as M, T } }\ndeclare const a: 1, b: 2;\ndeclare namespace O { const x: 1; export { b } }\ntype T = 1;\nexport { N };`,
   `declare namespace N { const a: 1; namespace M { export { X as Q, b }; const b: 1 } export { a, X as P, M } }\nimport X = N;\nexport { N };`,
   `export declare namespace N.M.O { const x: 1; namespace P.Q { const y: 1 } }`,

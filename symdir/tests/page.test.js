@@ -248,6 +248,19 @@ test('a row of the page has the kind of its name, whether it is a type alone or 
   assert.doesNotMatch(single, /<h2>(\d+ findings?|Public names)<\/h2>/);
 });
 
+test('a name of the page has its whole signature, where it is defined and by what it comes; of many entries there is their number', () => {
+  const entries = ['e1', 'e2', 'e3', 'e4'];
+  const folder = folderOf({ 'package.json': JSON.stringify({ exports: Object.fromEntries(entries.map((it) => [`./${it}`, `./${it}.ts`])) }), ...Object.fromEntries(entries.map((it) => [`${it}.ts`, 'export const n = 1;\n'])),
+    'e1.ts': 'export * from "./a";\nexport * as all from "./a";\n', 'a.ts': 'export function f(a: 1): 2;\n' });
+  const { stdout } = symdir(['api', folder, '--html']);
+  assert.match(stdout, /<p class="about">5 public names of 4 entry points<\/p>/);
+  const bodyOf = (/** @type {string} */ name) => new RegExp(`<li class="row" data-name="${name}".*?<div class="body">(.*?)</div></details>`).exec(stdout)?.[1].replaceAll('&#34;', '"');
+  const facts = (/** @type {string[]} */ ...rows) => `<dl class="facts">${rows.map((it) => it.replace(/^(.*?): (.*)$/, '<dt>$1</dt><dd>$2</dd>')).join('')}</dl>`;
+  assert.equal(bodyOf('f'), `<pre class="whole"><code>f(a: 1): 2</code></pre>${facts('defined in: a.ts:1:17', 'via: export * from "./a" in e1.ts', 'exported by: e1.ts')}`);
+  assert.ok(bodyOf('all')?.startsWith(facts('defined in: a.ts:1:1, by export * as all from "./a" in e1.ts:2:8', 'exported by: e1.ts')));
+  assert.equal(bodyOf('n'), facts('defined in: e2.ts:1:14', 'exported by: e2.ts'));
+});
+
 test('a click on a box of the page\'s picture leads to the names that its file defines', () => {
   const { stdout } = symdir(['api', folderOf({ 'index.ts': 'export * from "./sub/a b";\nexport const c = 1;\n', 'sub/a b.ts': 'export const a = 1;\n' }), '--html']);
   const links = [...stdout.matchAll(/<a href="([^"]*)" data-tip="([^"]*)"/g)].map(([, href, tip]) => `${href} ${tip}`);

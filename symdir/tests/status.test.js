@@ -8,6 +8,7 @@ import test from 'node:test';
 
 import { failureOf } from '../lib/failure.js';
 import { Progress } from '../lib/output.js';
+import { Symq } from '../lib/symq.js';
 import { BIN, folderOf, program, symdir } from './helper.js';
 
 const TEXT = 'export const n = 1;\n';
@@ -86,6 +87,14 @@ test('a fault of this program is none of the system, and isn\'t told in a line',
   assert.equal(failureOf(Object.assign(new Error('no code'), { syscall: 'open' })), null);
   const failure = failureOf(Object.assign(new Error('EACCES: open'), { code: 'EACCES', syscall: 'open' }));
   assert.deepEqual([failure?.message, failure?.status, failure?.kind], ['EACCES: open', 3, 'system']);
+});
+
+test('how many queries symq has answered is told as answers come, whole or in parts', () => {
+  /** @type {string[]} */
+  const told = [];
+  const symq = Object.assign(new Symq('symq', 'graph'), { open: ['a', 'b', 'c'], progress: (/** @type {string} */ it) => told.push(it) });
+  for (const it of ['1\n"é', '"\n', '3\n']) symq.receive(Buffer.from(it));
+  assert.deepEqual([told, [...symq.known]], [['symq answered 1 of 3 queries', 'symq answered 2 of 3 queries', ''], [['a', 1], ['b', 'é'], ['c', 3]]]);
 });
 
 test('--verbose tells every five seconds how far it is, and nothing else does', async () => {

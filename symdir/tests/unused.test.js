@@ -84,11 +84,16 @@ test('kinds and places, what the file uses itself, values that are used as types
   assert.deepEqual(inFile.exports.map((/** @type {any} */ it) => [it.name, it.inFile]), [['a', true], ['b', false], ['d', true]]);
 });
 
+test('a module that imports itself uses no export of its own', () => {
+  const { exports } = answer(['unused', folderOf({ 'index.ts': 'import "./a";\n', 'a.ts': 'import * as self from "./a";\nimport { b } from "./a";\nexport const a = () => self.a, b = 1, c = b;\n' })]);
+  assert.deepEqual(exports.map((/** @type {any} */ it) => it.name), ['a', 'b', 'c']);
+});
+
 test('each kind of value that others use as a type alone, and no type', () => {
   const out = answer(['unused', folderOf({
-    'index.ts': 'import d, { C, f, E, N, c, l, v, I, T } from "./a";\nexport let x: C | typeof f | E | N.Inner | typeof c | typeof l | typeof v | I | T | typeof d;\n',
-    'a.ts': 'export class C {}\nexport function f() {}\nexport enum E { x }\nexport namespace N { export class Inner {} }\nexport const c = 1;\nexport let l = 1;\nexport var v = 1;\nexport interface I {}\nexport type T = 1;\nexport default 1;\n' })]);
-  assert.deepEqual(out.typesOnly.map((/** @type {any} */ it) => `${it.kind} ${it.name}`).sort(), ['class C', 'const c', 'default default', 'enum E', 'function f', 'let l', 'namespace N', 'var v']);
+    'index.ts': 'import d, { C, f, E, N, c, l, v, u, I, T } from "./a";\nexport let x: C | typeof f | E | N.Inner | typeof c | typeof l | typeof v | typeof u | I | T | typeof d;\n',
+    'a.ts': 'using u = null!;\nexport { u };\nexport class C {}\nexport function f() {}\nexport enum E { x }\nexport namespace N { export class Inner {} }\nexport const c = 1;\nexport let l = 1;\nexport var v = 1;\nexport interface I {}\nexport type T = 1;\nexport default 1;\n' })]);
+  assert.deepEqual(out.typesOnly.map((/** @type {any} */ it) => `${it.kind} ${it.name}`).sort(), ['class C', 'const c', 'default default', 'enum E', 'function f', 'let l', 'namespace N', 'using u', 'var v']);
 });
 
 test('dependencies: imported, for types alone, by nothing, and by what isn\'t read', () => {

@@ -128,6 +128,15 @@ test('a picture', () => {
   assert.match(readFileSync(file, 'utf8'), /<svg/);
 });
 
+test('a text for Graphviz in a file, of names that are all there', () => {
+  const folder = folderOf({ 'index.ts': 'export * from "./a";\n', 'a.ts': 'export const a = 1;\n' });
+  for (const ending of ['dot', 'gv', 'DOT']) {
+    const file = path.join(folderOf({}), `web.${ending}`);
+    assert.deepEqual(symdir(['web', folder, '-o', file]), { status: 0, stdout: `${file}: 2 modules in 2 boxes, 1 edge; all resolved\n`, stderr: '' });
+    assert.equal(readFileSync(file, 'utf8'), symdir(['web', folder]).stdout);
+  }
+});
+
 test('without Graphviz it says what to do', () => {
   // TypeScript may be found by its command alone
   const tsc = (process.env.PATH ?? '').split(':').map((it) => path.join(it, 'tsc')).find((it) => existsSync(it));
