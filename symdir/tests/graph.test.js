@@ -3,7 +3,9 @@ import { readFileSync } from 'node:fs';
 import path from 'node:path';
 import test from 'node:test';
 
+import { decoded } from '../lib/folder/text.js';
 import { answer, folderOf, symdir } from './helper.js';
+import { ts } from './language.js';
 
 /** @param {Record<string, string | Buffer>} files @param {string[]} words @returns {any} the graph on standard output */
 function graph(files, ...words) {
@@ -24,6 +26,14 @@ test('a byte order mark isn\'t taken, UTF-16 is read, and a declaration file is 
   assert.deepEqual(out.modules.map((/** @type {any} */ it) => it.text), ['let a;', 'declare let b: 1;', 'let c;']);
   assert.deepEqual(out.modules.map((/** @type {any} */ it) => it.tree.declaration ?? false), [false, true, false]);
   assert.deepEqual(out.modules[0].tree.nodes[0].range, [0, 6]);
+});
+
+test('the text of a file is what TypeScript reads, in either order of UTF-16, and whatever its first bytes are', () => {
+  const [little, big] = [Buffer.from('\ufefflet é;', 'utf16le'), Buffer.from('\ufefflet é;', 'utf16le').swap16()];
+  const others = [[], [0xff], [0xfe], [0xff, 0x0a], [0xfe, 0x0a], [0x0a, 0xff], [0x0a, 0xfe], [0xff, 0xfe], [0xfe, 0xff], [0xfe, 0xff, 0x00]].map((it) => Buffer.from(it));
+  for (const it of [little, big, Buffer.from('\ufefflet é;'), Buffer.concat([little, Buffer.from('a')]), Buffer.concat([big, Buffer.from('a')]), ...others]) {
+    assert.equal(decoded(it), ts.sys.readFile(path.join(folderOf({ 'a.ts': it }), 'a.ts')), it.toString('hex'));
+  }
 });
 
 test('--js: a module of JavaScript has the types that stand beside it', () => {

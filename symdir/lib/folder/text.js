@@ -4,9 +4,11 @@ import { readFileSync } from 'node:fs';
 import { wellFormed } from '../wellformed.js';
 import { hashOf } from './kept.js';
 
-/** @param {Buffer} bytes @returns {string} of UTF-8, or of UTF-16 where its mark says so; well formed, without a mark */
+/** @param {Buffer} bytes @returns {string} of UTF-8, or of UTF-16 where its mark says so, in either order; well formed, without a mark */
 export function decoded(bytes) {
-  const text = bytes[0] === 0xff && bytes[1] === 0xfe ? wellFormed(bytes.toString('utf16le')) : bytes.toString('utf8');
+  const mark = bytes.length > 1 ? bytes.readUInt16BE() : 0;
+  if (mark === 0xfeff) return decoded(Buffer.from(bytes.subarray(0, bytes.length & ~1)).swap16());
+  const text = mark === 0xfffe ? wellFormed(bytes.toString('utf16le')) : bytes.toString('utf8');
   return text.charCodeAt(0) === 0xfeff ? text.slice(1) : text;
 }
 
