@@ -64,6 +64,7 @@ test('words for each fault', () => {
   assert.deepEqual(words('\ufeff{}'), ['1:1: it begins with a byte order mark, which isn\'t allowed']);
   assert.deepEqual(words('{\n"x": 1.5}'), ['2:6: 1.5 is no whole number of 64 bits, written in digits alone']);
   assert.deepEqual(words('[]'), ['a graph is an object, and this is []']);
+  assert.deepEqual([19, 20, 21].map((it) => words(`[${Array(it).fill('1.5')}]`).length), [19, 20, 20]);
   assert.deepEqual(words({ modules: [{ kind: 'esm' }] }), ['module 0 of the list: "specifier" has to be there, a text', 'module 0 of the list: "text" has to be there, a text']);
   assert.deepEqual(tree({ kind: 'Ident', range: [0, 1] }), ['module m, node 0 (Ident): "sym" has to be there']);
   assert.deepEqual(tree({ kind: 'Idnt', range: [0, 1] }), ['module m, node 0 (Idnt): there is no kind "Idnt"']);
@@ -97,6 +98,21 @@ test('words for each fault', () => {
   assert.deepEqual(words({ resolutions: [['a', 'b', 'c'], ['a', 'b', 'd']] }), ['two resolutions have the referrer and the text a b']);
   assert.deepEqual(words({ modules: [1, 2].map(() => ({ specifier: 'a', kind: 'external' })) }), ['two modules have the specifier a']);
   assert.deepEqual(words({ modules: null, redirects: null, resolutions: null }), []);
+});
+
+test('words for a module or a tree that has another form than docs/GRAPH.md says', () => {
+  const of = (/** @type {unknown} */ module) => wordsOf(Buffer.from(JSON.stringify({ modules: [module] })));
+  const module = (/** @type {object} */ more) => of({ specifier: 'm', kind: 'esm', text: '', ...more });
+  assert.deepEqual([module({}), module({ types: 'n' }), module({ tree: null }), module({ kind: 'json' }), of({ specifier: 'm', kind: 'external' })], [[], [], [], [], []]);
+  assert.deepEqual(of(5), ['module 0 of the list: it has to be an object, and is 5']);
+  /** @type {[object, string][]} */
+  const faulty = [[{ kind: 'cjs' }, '"kind" has to be "esm", "json" or "external", and is "cjs"'], [{ kind: 'json', text: 5 }, '"text" has to be there, a text'], [{ types: 5 }, '"types" has to be a text, and is 5'],
+    [{ tree: [] }, '"tree" has to be an object, and is []'], [{ tree: { declaration: 1 } }, '"declaration" has to be true or false, and is 1'], [{ tree: { nodes: {} } }, '"nodes" has to be a list, and is {}']];
+  for (const [more, wanted] of faulty) assert.deepEqual(module(more), [`module m: ${wanted}`]);
+  const nodes = (/** @type {unknown[]} */ ...all) => module({ tree: { nodes: all } });
+  assert.deepEqual(nodes(5), ['module m, node 0: it has to be an object, and is 5']);
+  assert.deepEqual(nodes({ range: [0, 0] }), ['module m, node 0: "kind" has to be there, a text']);
+  for (const it of [null, [0], [0, 0, 0], [0, '0']]) assert.deepEqual(nodes({ kind: 'Program', range: it }), [`module m, node 0 (Program): "range" has to be [start, end], two numbers, and is ${JSON.stringify(it)}`]);
 });
 
 test('the tree of each piece of syntax has no fault', () => {
@@ -143,6 +159,8 @@ test('lists and objects may be nested 127 deep, in texts brackets are none', () 
   assert.deepEqual(nested(128), ['2:127: lists and objects are nested more than 127 deep']);
   const objects = (/** @type {number} */ depth) => wordsOf(Buffer.from(`${'{"a":'.repeat(depth)}1${'}'.repeat(depth)}`));
   assert.deepEqual([objects(127), objects(128)], [[], ['1:636: lists and objects are nested more than 127 deep']]);
+  // what was odd before is told too
+  assert.deepEqual(wordsOf(Buffer.from(`[1.5,${'['.repeat(127)}${']'.repeat(128)}`)).map((it) => it.replace(/:.*?:/, '')), ['1 1.5 is no whole number of 64 bits, written in digits alone', '1 lists and objects are nested more than 127 deep']);
   assert.deepEqual(wordsOf(Buffer.from(`{"a":"${'['.repeat(200)}"}`)), []);
   // those that stand beside one another aren't nested
   assert.deepEqual(wordsOf(Buffer.from(`{"a":[${'[],{},'.repeat(200)}[]]}`)), []);

@@ -26,9 +26,9 @@ async function byKind(from, to) {
 
 test('a change of the kind: what can\'t be done any more, and what can be done too', async () => {
   const rows = {
-    major: ['class interface', 'class const', 'class type', 'class enum', 'enum type', 'namespace class', 'namespace const', 'class+namespace class', 'interface const', 'const type', 'interface type', 'class ?', 'function+namespace function',
+    major: ['class interface', 'class const', 'class type', 'class enum', 'enum type', 'namespace class', 'namespace const', 'class+namespace class', 'interface const', 'const type', 'interface type', 'class ?', 'const ?', 'function ?', 'type ?', 'function+namespace function',
       'property getter', 'getter+setter getter', 'setter getter', 'function class', 'function enum', 'class function'],
-    minor: ['interface class', 'type enum', 'const class', 'class class+namespace', 'function function+namespace', 'interface interface+const', '? class', 'type interface', 'enum class', 'getter property', 'getter getter+setter', 'const namespace', 'method getter+setter', 'method property'],
+    minor: ['interface class', 'type enum', 'const class', 'class class+namespace', 'function function+namespace', 'interface interface+const', '? class', '? const', 'type interface', 'enum class', 'getter property', 'getter getter+setter', 'const namespace', 'method getter+setter', 'method property'],
     patch: ['const let', 'let var', 'var function', 'function using', 'using const', 'property parameter', 'parameter accessor', 'accessor getter+setter', 'getter+setter setter+getter', 'setter+getter property'],
   };
   for (const [advice, pairs] of Object.entries(rows)) for (const it of pairs) assert.equal(await byKind(...(/** @type {[string, string]} */ (it.split(' ')))), `${advice} kind`, it);
@@ -185,6 +185,13 @@ test('overloads, and intersections within them', () => {
   }
 });
 
+test('what became of overloads, by the reason', async () => {
+  const reason = async (/** @type {string} */ from, /** @type {string} */ to) => (await told([item('f', 'function', { signature: from })], [item('f', 'function', { signature: to })])).join();
+  assert.equal(await reason('(a: 1): 1 & (a: 2): 2', '(a: 2): 2 & (a: 1): 1'), 'major signature f: its overloads are in another order, and the first that fits counts');
+  assert.equal(await reason('(a: 1): 1', '(a: 1): 1 & (a: 2): 2'), 'minor signature f: an overload was added');
+  assert.equal(await reason('(a: 1): 1 & (a: 2): 2', '(a: 1): 1'), 'major signature f: its types changed');
+});
+
 test('a class, an enum or a member that has a word more or less, or another heritage', async () => {
   const changed = async (/** @type {string} */ kind, /** @type {string} */ from, /** @type {string} */ to, name = 'A') => (await told([item(name, kind, { signature: from })], [item(name, kind, { signature: to })])).map((it) => it.replace(` signature ${name}`, '')).join();
   for (const more of ['', ' <T> extends B<T> implements C']) {
@@ -194,6 +201,8 @@ test('a class, an enum or a member that has a word more or less, or another heri
   }
   assert.equal(await changed('class+interface', '<T> & <T>', '<T> & abstract <T>'), 'major: it can\'t be constructed any more');
   assert.equal(await changed('class', 'abstract extends B', 'extends C'), 'major: its types changed');
+  // the word is the type's there, and not the member's
+  assert.equal(await changed('property', ': abstract new () => B', ': new () => B', 'A#a'), 'major: its types changed');
   for (const [from, to] of [['', 'extends B'], ['extends B', ''], ['', '<T>'], ['<T>', '<T extends B>'], ['<T>', '<T = B>'], ['extends B', 'extends B<C>']]) assert.equal(await changed('class', from, to), 'major: its types changed', `${from}; ${to}`);
   for (const [from, to] of [['', 'extends B'], ['extends B', ''], ['', '<T>'], ['<T>', '']]) assert.equal(await changed('interface', from, to), 'major: its types changed', `${from}; ${to}`);
   for (const [from, to] of [['', 'implements B'], ['extends B implements C', 'extends B'], ['<T extends { implements: 1 }> implements B', '<T extends { implements: 1 }> implements C, D']]) assert.equal(await changed('class', from, to), 'patch: what it implements gives it no members', `${from}; ${to}`);

@@ -34,8 +34,8 @@ test('names that became types alone, by each word that does so', () => {
   const a = 'export class A {}\nexport default A;\n';
   const index = { 'index.ts': 'export { A } from "./a";', 'a.ts': a };
   for (const text of ['export type { A } from "./a";', 'export { type A } from "./a";', 'import type { A } from "./a";\nexport { A };', 'import { type A } from "./a";\nexport { A };',
-    'import type B from "./a";\nexport { B as A };', 'export * from "./b";', 'export { B as A } from "./c";', 'export { "x y" as A } from "./d";']) {
-    const files = { 'index.ts': text, 'a.ts': a, 'b.ts': 'export type { A } from "./a";', 'c.ts': 'import { A } from "./a";\nexport type { A as B };', 'd.ts': 'export type { A as "x y" } from "./a";' };
+    'import type B from "./a";\nexport { B as A };', 'export * from "./b";', 'export type * from "./a";', 'export * from "./e";', 'export { B as A } from "./c";', 'export { "x y" as A } from "./d";']) {
+    const files = { 'index.ts': text, 'a.ts': a, 'b.ts': 'export type { A } from "./a";', 'c.ts': 'import { A } from "./a";\nexport type { A as B };', 'd.ts': 'export type { A as "x y" } from "./a";', 'e.ts': 'export type * from "./a";' };
     assert.deepEqual(diff(index, files), ['major type-only A'], text);
     assert.deepEqual(diff(files, index), ['minor type-only A'], text);
   }

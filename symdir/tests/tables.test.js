@@ -76,6 +76,8 @@ test('the usual module is the first of the list that is there', async () => {
     assert.deepEqual(await entries(files), [`${usual[i]}.ts`]);
   }
   assert.deepEqual(await entries({ 'other.ts': TEXT, 'sub/index.ts': TEXT }), ['other.ts', 'sub/index.ts']);
+  // by their paths, in which a directory comes behind a file that begins alike
+  assert.deepEqual(await entries({ 'x/b.ts': TEXT, 'x.ts': TEXT, 'x-y.ts': TEXT }), ['x-y.ts', 'x.ts', 'x/b.ts']);
   // TypeScript goes before the JavaScript beside it
   assert.deepEqual(await entries({ 'index.ts': TEXT, 'index.js': TEXT, 'mod.ts': TEXT }), ['index.ts']);
 });
@@ -83,7 +85,7 @@ test('the usual module is the first of the list that is there', async () => {
 test('which paths are tests and the like', () => {
   const are = ['test/a.ts', 'tests/a.ts', '__tests__/a.ts', 'spec/a.ts', 'specs/a.ts', 'example/a.ts', 'examples/a.ts', 'script/a.ts', 'scripts/a.ts', 'benchmark/a.ts', 'benchmarks/a.ts',
     'x/tests/y/a.ts', 'a.test.ts', 'a_test.ts', 'a.spec.tsx', 'a.stories.js', 'a.config.mts', 'x/a.bench.ts'];
-  const arent = ['latest/a.ts', 'testing/a.ts', 'specimen/a.ts', 'contest.ts', 'a.tests.ts', 'atest.ts', 'bench/a.ts', 'test.ts', 'a.test', 'counterexamples/a.ts', 'config.ts'];
+  const arent = ['latest/a.ts', 'testing/a.ts', 'specimen/a.ts', 'contest.ts', 'a.tests.ts', 'atest.ts', 'bench/a.ts', 'test.ts', 'a.test', 'counterexamples/a.ts', 'config.ts', 'x.config.d/a.ts'];
   assert.deepEqual([are.filter((it) => !TEST.test(it)), arent.filter((it) => TEST.test(it))], [[], []]);
 });
 
@@ -172,6 +174,8 @@ test('counts, columns and lines of words', () => {
   const long = 'x'.repeat(50);
   assert.deepEqual(columns([['a', 'bb', 'c'], ['aaa', 'b'], [long]]), ['a    bb  c', 'aaa  b', long]);
   assert.deepEqual(columns([[long, 'b'], ['a', 'b']]), [`${long}  b`, `a${' '.repeat(43)}  b`]);
+  // the last cell of a row is as long as its text, whatever stands in others
+  assert.deepEqual(columns([['a', 'bb', 'c'], ['a', 'b'], ['a']], (cells) => cells.map((it) => `<${it}>`)), ['<a>  <bb>  <c>', '<a>  <b>', '<a>']);
   assert.deepEqual(wrapped('aa bb cc dddddd', 5), ['aa bb', 'cc', 'dddddd']);
   const [off, on] = [new Paint(false), new Paint(true)];
   assert.deepEqual([off.red('a'), on.red(''), on.red('a'), on.green('a'), on.yellow('a'), on.bold('a'), on.dim('a')], ['a', '', ...[31, 32, 33, 1, 2].map((it) => `\x1b[${it}ma\x1b[0m`)]);
