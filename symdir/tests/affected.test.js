@@ -4,6 +4,7 @@ import { mkdirSync, renameSync, rmSync, symlinkSync, writeFileSync } from 'node:
 import path from 'node:path';
 import test from 'node:test';
 
+import { isConfig } from '../lib/affected/changes.js';
 import { answer, folderOf, symdir } from './helper.js';
 
 /** @param {string} folder @param {string[]} words */
@@ -52,6 +53,9 @@ test('names by the modules of their paths, and answers by their inputs', () => {
   assert.deepEqual(namesOf(of('far.ts', path.join(folder, 'd.ts'))).sort(), ['index.ts far', 'index.ts whole']);
   assert.deepEqual(namesOf(of('index.ts')).length, 6);
   assert.deepEqual(namesOf(of('alone.ts')), []);
+  // a name that isn't there may come along each `export *`
+  const lacking = folderOf({ ...FILES, 'index.ts': 'export { lost } from "./c";\nexport { b } from "./b";\n' });
+  assert.deepEqual([namesOf(answer(['affected', lacking, 'd.ts'])), namesOf(answer(['affected', lacking, 'b.ts']))], [['index.ts lost'], ['index.ts b']]);
   assert.deepEqual(symdir(['affected', folder, 'alone.ts']), { status: 0, stderr: '', stdout: '1 file changed: alone.ts\nanswers on 1 module can change:\n  alone.ts  exports, definitions\n' });
 });
 
@@ -61,10 +65,28 @@ test('a file that isn\'t there counts as deleted: what would import it can chang
   assert.deepEqual([namesOf(out), out.lists], [['index.ts a'], ['index.ts']]);
   const { status, stderr } = symdir(['affected', folder, 'nothing.ts']);
   assert.deepEqual([status, stderr], [0, 'symdir: no such file, and no import would lead to it: nothing.ts\n']);
+  const data = folderOf({ 'index.ts': 'import it from "./it.json";\nexport { it };\n' });
+  assert.deepEqual(namesOf(answer(['affected', data, 'it.json'])), ['index.ts it']);
+  const later = folderOf({ 'b.ts': 'export { default } from "./a.json";\n', 'a.json': '{}' });
+  assert.deepEqual(modulesOf(answer(['affected', later, 'a.json'])).map((it) => it.split(' ')[0]), ['a.json', 'b.ts']);
   const inner = folderOf({ 'in/a.ts': 'export const a = 1;\n' });
   const told = (/** @type {string} */ it) => `symdir: ${it} is a directory: name the files in it that changed, or --since REV\n`;
   assert.deepEqual(symdir(['affected', inner, 'in/a.ts', 'in/']), { status: 2, stdout: '', stderr: told('in') });
   assert.deepEqual(symdir(['affected', inner, '.']), { status: 2, stdout: '', stderr: told('.') });
+});
+
+test('a file is named relative to the directory, or else to the current one, and may be one that isn\'t read', () => {
+  const top = folderOf({ 'dir/index.ts': 'export * from "./a";\nexport * from "./gen/b";\n', 'dir/a.ts': 'export const a = 1;\n', 'dir/gen/b.ts': 'export const b = 1;\n' });
+  const of = (/** @type {string[]} */ ...words) => JSON.parse(symdir(['affected', 'dir', ...words, '--json'], { cwd: top }).stdout);
+  assert.deepEqual(['a.ts', 'dir/a.ts'].map((it) => [of(it).files, namesOf(of(it))]), [[['a.ts'], ['index.ts a']], [['a.ts'], ['index.ts a']]]);
+  const skipped = of('gen/b.ts', '--skip', '^gen/');
+  assert.deepEqual([namesOf(skipped), skipped.lists, modulesOf(skipped)], [[], ['index.ts'], ['index.ts exports definitions']]);
+});
+
+test('a configuration file is told by its name, wherever it stands', () => {
+  const are = ['package.json', 'x/package.json', 'deno.json', 'deno.jsonc', 'import_map.json', 'importmap.json', 'tsconfig.json', 'x/tsconfig.base.json', 'tsconfig-base.json', 'jsconfig.json'];
+  const arent = ['package.json.bak', 'package.json5', 'my-package.json', 'package-lock.json', 'deno.lock', 'tsconfig.ts', 'config.json', 'package/a.json', 'sconfig.json', 'a.json'];
+  assert.deepEqual([are.filter((it) => !isConfig(it)), arent.filter(isConfig)], [[], []]);
 });
 
 test('a configuration file can change what each import stands for', () => {
@@ -81,6 +103,8 @@ test('since a revision: edited, new and deleted files, and names that came and w
   writeFileSync(path.join(folder, 'a.ts'), 'export const a2 = 1;\nexport { far } from "./far";\n');
   const out = of();
   assert.deepEqual([out.files, namesOf(out), out.lists], [['a.ts'], ['index.ts a2 added', 'index.ts far', 'index.ts a removed'], ['index.ts']]);
+  const lines = symdir(['affected', folder, '--since', 'HEAD']).stdout.split('\n').map((it) => it.trim().replace(/ {2,}/g, '  '));
+  assert.deepEqual(lines.slice(0, 5), ['1 file changed: a.ts', 'index.ts: 3 public names can change, and which there are', 'a  removed', 'a2  const  a.ts:1:14  added', 'far  const  far.ts:1:14']);
   git(folder, 'checkout', '-q', 'a.ts');
   rmSync(path.join(folder, 'd.ts'));
   writeFileSync(path.join(folder, 'new.ts'), 'export const n = 1;\n');
@@ -120,6 +144,27 @@ test('since a revision: files that Git ignores are what they were, and moved one
   assert.deepEqual([out.files, namesOf(out)], [['a.ts', 'c.ts'], ['index.ts a removed']]);
 });
 
+test('since a revision: what is no module isn\'t told, and a name with a line end leaves the others what they are', () => {
+  const folder = repository({ ...FILES, 'index.ts': `${FILES['index.ts']}import "none";\n`, 'readme.md': 'a', '0\nb.txt': 'a', 'A.ts': 'export const A = 1;\n' });
+  const edited = (/** @type {Record<string, string>} */ files) => Object.entries(files).forEach(([it, text]) => writeFileSync(path.join(folder, it), text));
+  edited({ 'readme.md': 'b', '0\nb.txt': 'b', 'b.ts': 'export const b = 2;\n' });
+  const out = answer(['affected', folder, '--since', 'HEAD']);
+  assert.deepEqual([out.files, out.lists, namesOf(out)], [['b.ts'], [], ['index.ts b', 'index.ts c']]);
+  edited({ 'A.ts': 'export const A = 2;\n', 'a.ts': `${FILES['a.ts']}// more\n` });
+  assert.deepEqual(namesOf(answer(['affected', folder, '--since', 'HEAD'])), ['index.ts b', 'index.ts c', 'index.ts a', 'index.ts far']);
+});
+
+test('since a revision: an entry that is new has new names, and a configuration file above the directory counts', () => {
+  const folder = repository({ 'tsconfig.json': '{ "compilerOptions": { "paths": { "x": ["./dir/a.ts"] } } }', 'dir/index.ts': 'export { n } from "x";\n', 'dir/a.ts': 'export const n = 1;\n', 'dir/b.ts': 'export const n = 2;\n' });
+  const dir = path.join(folder, 'dir');
+  writeFileSync(path.join(dir, 'new.ts'), 'export const m = 1;\n');
+  const fresh = answer(['affected', dir, '--since', 'HEAD', '--entry', 'new.ts']);
+  assert.deepEqual([fresh.files, namesOf(fresh)], [['new.ts'], ['new.ts m added']]);
+  writeFileSync(path.join(folder, 'tsconfig.json'), '{ "compilerOptions": { "paths": { "x": ["./dir/b.ts"] } } }');
+  const moved = answer(['affected', dir, '--since', 'HEAD', '--entry', 'index.ts']);
+  assert.deepEqual([moved.files, namesOf(moved)], [['../tsconfig.json', 'new.ts'], ['index.ts n']]);
+});
+
 test('names behind `export =`', () => {
   const folder = folderOf({ 'index.ts': 'import * as b from "./b";\ndeclare namespace n { export import x = b.x; const y: 1; }\nexport = n;\n', 'b.ts': 'export const x = 1;\n', 'c.ts': 'export {};\n' });
   const of = (/** @type {string} */ file) => namesOf(answer(['affected', folder, file, '--entry', 'index.ts']));
@@ -142,6 +187,10 @@ test('--check: which of the names did change', () => {
     assert.deepEqual(out.changes.map((/** @type {any} */ it) => `${it.advice} ${it.name} ${it.what}`), ['major C#m signature', 'major a signature']);
     assert.equal(out.others, 0);
   }
+  writeFileSync(path.join(folder, 'a.ts'), 'export const a: string = "";\nexport const same = 1;\nexport class C { m(): void {} }\n');
+  const one = symdir(['affected', folder, 'a.ts', '--check', snapshot]);
+  assert.deepEqual([one.status, one.stdout.split('\n').slice(-5, -3)], [1, [`changed since ${snapshot}:`, 'major  ~  index.ts: a  signature: : number  ->  : string']]);
+  writeFileSync(path.join(folder, 'a.ts'), 'export const a: string = "";\nexport const same = 1;\nexport class C { m(): number { return 1; } }\n');
   const other = symdir(['affected', folder, 'b.ts', '--check', snapshot]);
   assert.equal(other.status, 0);
   assert.match(other.stdout, /\nother names have 2 changes, which these files don't explain\n$/);

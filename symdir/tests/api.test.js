@@ -20,7 +20,8 @@ function places(out) {
 
 test('each public name, with kind and place', () => {
   const out = answer(['api', folderOf(SHAPES)]);
-  assert.deepEqual(out.entries, ['index.ts']);
+  // what is told of some names and files alone isn't there without them
+  assert.deepEqual([Object.keys(out), out.entries], [['entries', 'names', 'open'], ['index.ts']]);
   assert.deepEqual(places(out), {
     Shape: 'interface shapes.ts:1:18',
     make: 'function shapes.ts:3:25',

@@ -166,6 +166,7 @@ test('what can\'t be done', () => {
   assert.equal(said('api', folderOf({})).replace(/\/\S+:/, ':'), 'symdir: no modules in : no file ends in .ts .tsx .mts .cts .js .jsx .mjs .cjs\n');
   assert.equal(said('api', folder, '--skip', '.'), `symdir: no modules in ${folder}: --skip excludes all 2\n`);
   assert.equal(said('api', folder, '--symq', 'none'), 'symdir: can\'t start none: not found; --symq FILE and SYMQ name the program symq, and `make symq` builds it\n');
+  assert.match(said('api', folder, '--symq', path.join(folder, 'a.ts')), /^symdir: can't start \/\S+\/a\.ts: not executable; --symq FILE /);
 });
 
 test('a program that refuses, and one that dies', () => {

@@ -57,6 +57,13 @@ test('its objects are what the commands print as JSON', async () => {
   await Promise.all([strict.close(), unlisted.close()]);
 });
 
+test('tests count for `unused`, and without them where production alone is asked for', async (t) => {
+  const folder = await openFolder(folderOf({ 'index.ts': 'export {};\n', 'a.test.ts': 'import "./b";\n', 'b.ts': 'export {};\n' }), { cache: false });
+  t.after(() => folder.close());
+  for (const options of [undefined, {}, { production: false }]) assert.deepEqual((await folder.unused(options)).files, []);
+  assert.deepEqual((await folder.unused({ production: true })).files, ['b.ts']);
+});
+
 test('the modules, and what can\'t be parsed', async () => {
   const folder = await openFolder(folderOf(MADE));
   assert.deepEqual([folder.entries, folder.modules], [['index.ts'], ['a.ts', 'b.ts', 'bad.ts', 'c.ts', 'global.d.ts', 'index.ts']]);
@@ -124,6 +131,7 @@ test('each error has its kind', async () => {
     assert.equal(await kindOf(() => folder.uses(it)), 'argument');
   }
   for (const work of [() => folder.exports('none.ts'), () => folder.unused(), () => folder.cycles()]) assert.equal(await kindOf(work), 'argument');
+  for (const it of /** @type {const} */ (['unused', 'cycles'])) await assert.rejects(folder[it](), { message: `${it} needs function bodies: open the directory without bodies: false` });
   assert.equal(await kindOf(() => folder.where({ file: 'bad.ts', line: 1 })), 'source');
   assert.equal((await folder.names()).length, 4);
   const shop = await openFolder(SHOP);
@@ -274,6 +282,10 @@ test('each option and each key of a place has its type, and no other', async () 
   for (const it of spots) assert.equal(kindOf(() => checkedSpot(/** @type {any} */ (it))), 'argument', JSON.stringify(it));
   assert.deepEqual(checkedSpot({ file: 'a.ts', line: 1 }), { spot: { file: 'a.ts', line: 1, column: null }, name: undefined });
   assert.deepEqual(checkedSpot({ file: 'a.ts', line: 2, column: 3, name: 'n' }), { spot: { file: 'a.ts', line: 2, column: 3 }, name: 'n' });
+  const message = (/** @type {any} */ options) => () => readingOf(folder, options);
+  assert.throws(message({ entries: [] }), { message: 'unknown option entries; there are entry, skip, js, packages, ambientExports, cache, strict, bodies, symq, progress' });
+  assert.throws(message({ js: 1 }), { message: 'option js: 1 isn\'t of its type' });
+  assert.throws(message(null), { message: 'option has to be an object' });
   const open = await openFolder(folder);
   const failed = await open.exports(/** @type {any} */ (undefined)).then(() => null, (error) => error).finally(() => open.close());
   assert.deepEqual([failed?.name, failed?.kind, failed?.message], ['SymdirError', 'argument', 'exports takes a file']);

@@ -207,6 +207,12 @@ test('code and text in Markdown', () => {
   assert.equal(prose('~~a~~ ~b~'), '&#126;&#126;a&#126;&#126; &#126;b&#126;');
 });
 
+test('a row of each public name, with the first sentence about it, and words for one without definition', () => {
+  const folder = folderOf({ 'index.ts': '/** Does it. And more. */\nexport function f(a: number): void {}\nexport { gone } from "./a";\n', 'a.ts': '' });
+  assert.equal(symdir(['api', folder, '--markdown']).stdout.split('\n\n').slice(0, 2).join('\n'), '### `index.ts`: 2 public names\n| name | kind | defined in | description |\n| --- | --- | --- | --- |\n'
+    + '| `f(a: number): void` | function | `index.ts:2:17` | Does it. |\n| `gone` |  | name: gone |  |');
+});
+
 /** So many rows are too long for a comment. */
 const COUNT = 300;
 
@@ -219,9 +225,27 @@ test('a long table is cut where a comment of GitHub ends, and says so', () => {
   assert.equal(stdout.split('\n').filter((it) => it.startsWith('| `name')).length + Number(rest), COUNT);
   assert.equal(symdir(['api', folder, '--markdown', '--all']).stdout.split('\n').filter((it) => it.startsWith('| `name')).length, COUNT);
   assert.deepEqual(table(['a'], [['b'], ['c']], true, 0), ['| a |', '| --- |', '| b |', '| c |']);
+  // and of findings alike
+  const unused = folderOf({ 'index.ts': 'import "./a";\n', 'a.ts': Array.from({ length: 1000 }, (_, i) => `export const name${i} = ${i};\n`).join('') });
+  const findings = symdir(['unused', unused, '--markdown']).stdout;
+  const [, rows, others] = /** @type {RegExpExecArray} */ (/^\*\*2 modules, 1 entry: 1000 exports unused\*\*\n\n(\| rule \| place \| finding \|\n.*)\n\nand (\d+) more \(`--all` lists them\)\n$/s.exec(findings));
+  assert.ok(rows.length > 59_000 && rows.length <= 60_000, `${rows.length}`);
+  assert.equal(rows.match(/ name\d+ /g)?.length, 1000 - Number(others));
+  assert.equal(symdir(['unused', unused, '--markdown', '--all']).stdout.match(/ name\d+ /g)?.length, 1000);
   // a table of 60,000 characters is whole, line ends between its lines included
   const lengths = [60_000, 60_001].map((it) => table(['a'], [['b'.repeat(it - '| a |\n| --- |\n|  |'.length)]], false).length);
   assert.deepEqual(lengths, [3, 4]);
+});
+
+test('tables of several entries are cut so that all together fit into a comment', () => {
+  const text = (/** @type {number} */ from) => Array.from({ length: 60 }, (_, i) => `/** ${'x'.repeat(600)} */\nexport const name${from + i} = 1;\n`).join('');
+  const folder = folderOf({ 'package.json': '{"exports":{"./a":"./a.ts","./b":"./b.ts","./c":"./c.ts"}}', 'a.ts': text(100), 'b.ts': text(200), 'c.ts': text(300) });
+  const { stdout } = symdir(['api', folder, '--markdown']);
+  const rows = ['1', '2', '3'].map((it) => stdout.match(new RegExp(`^\\| \`name${it}\\d\\d`, 'gm'))?.length ?? 0);
+  const more = [...stdout.matchAll(/^and (\d+) more /gm)].map((it) => Number(it[1]));
+  assert.deepEqual([rows[0], rows[1] + more[0], rows[2] + more[1], more.length], [60, 60, 60, 2]);
+  // as many rows as fit, of which each has over six hundred characters
+  assert.ok(stdout.length > 55_000 && stdout.length <= 60_000, `${stdout.length}`);
 });
 
 test('--out writes the report, and says how many findings it has', () => {

@@ -106,6 +106,15 @@ test('what default values in patterns and shorthands refer to is what TypeScript
   assert.deepEqual(uses.map((/** @type {any} */ it) => `${it.file}:${it.line}:${it.column}`).sort(), wanted);
 });
 
+test('an `import a = require(..)` is for types alone where no value is needed of it', () => {
+  const old = 'declare namespace old { interface O {} const v: 1 }\nexport = old;\n';
+  for (const [use, isType] of /** @type {const} */ ([['let it: old.O;', true], ['export const it = old.v;', false]])) {
+    const folder = folderOf({ 'old.d.ts': old, 'index.ts': `import old = require("./old");\n${use}\n` });
+    const [{ uses }] = answer(['uses', folder, 'old.d.ts:1:19', '--bodies']);
+    assert.deepEqual(uses.slice(0, 2).map((/** @type {any} */ it) => [it.line, it.column, it.how, it.isType]), [[1, 8, 'import', isType], [2, use.indexOf('old') + 1, 'reference', isType]]);
+  }
+});
+
 test('an import is for types alone where no body needs it, if bodies are read', () => {
   const files = { 'index.ts': 'import { a, b } from "./a";\nlet c: b;\nexport function f() { return a; }\n', 'a.ts': 'export const a = 1; export class b {}\n' };
   const isType = (/** @type {string} */ name, /** @type {string[]} */ ...words) => answer(['uses', folderOf(files), 'a.ts:1', name, ...words])[0].uses[0].isType;
@@ -143,6 +152,12 @@ test('of the names in a line those are asked that are declared there, and not on
   const folder = folderOf({ 'index.ts': 'import { a } from "./a"; export const b = a;\nexport { a };\n', 'a.ts': 'export const a = 1;\n' });
   const asked = (/** @type {string} */ spot) => answer(['uses', folder, spot]).map((/** @type {any} */ it) => it.name);
   assert.deepEqual([asked('index.ts:1'), asked('index.ts:2'), asked('index.ts:1:10')], [['b'], ['a'], ['a']]);
+});
+
+test('two names that share a declaration are told with its uses each', () => {
+  const shared = folderOf({ 'index.ts': 'import { A, A as B } from "./a";\nconst A = 1;\nexport { A, B };\n', 'a.ts': 'export interface A {}\n' });
+  const places = ['1:10', '1:13', '3:10', '3:13'];
+  assert.deepEqual(answer(['uses', shared, 'index.ts:3']).map((/** @type {any} */ it) => [it.name, ...it.uses.map((/** @type {any} */ one) => `${one.line}:${one.column}`)]), [['A', ...places], ['B', ...places]]);
 });
 
 test('what people read', () => {
