@@ -112,6 +112,11 @@ test('a baseline that isn\'t there, isn\'t one, or can\'t be written', () => {
   assert.equal(said('rule.json'), 'symdir: FILE: not a baseline: findings[0]: unknown rule no/rule\n');
   assert.equal(said('name.json'), 'symdir: FILE: not a baseline: findings[0]: name: expected a string\n');
   assert.equal(said('count.json'), 'symdir: FILE: not a baseline: findings[0]: count: expected a positive integer\n');
+  // of several faults the first is told, of the first row that has one
+  for (const [row, fault] of Object.entries({ '{}': 'rule: expected a string', 'null': 'expected an object', '5': 'expected an object', '{ "rule": "unused/file" }': 'file: expected a string' })) {
+    writeFileSync(path.join(folder, 'rows.json'), `{ "findings": [{ "rule": "unused/file", "file": "a", "name": "a" }, ${row}, {}] }`);
+    assert.equal(said('rows.json'), `symdir: FILE: not a baseline: findings[1]: ${fault}\n`);
+  }
   assert.match(said('list.json', '--save-baseline'), /not a baseline/);
   assert.match(said('gone/x.json', '--save-baseline'), /can't be written \(ENOENT\)/);
   assert.deepEqual(symdir(['unused', folder, '--save-baseline']), { status: 2, stdout: '', stderr: 'symdir: --save-baseline needs --baseline FILE\n' });

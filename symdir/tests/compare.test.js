@@ -123,10 +123,19 @@ test('snapshots: lines of any end, quotes, and what is no line', async () => {
   assert.deepEqual(withoutMembers(alike).map((it) => it.name), ['a', 'ab', 'b', 'a.e']);
 });
 
+test('a member comes and goes with what it is a member of, be that a member itself', async () => {
+  const [n, A, m] = [item('n', 'namespace'), item('n.A', 'class'), item('n.A#m', 'method')];
+  assert.deepEqual(await told([n, A, m], [n]), ['major removed n.A: existing uses break']);
+  assert.deepEqual(await told([n], [n, A, m]), ['minor added n.A: existing uses still work']);
+  assert.deepEqual(await told([n, A, m], [n, A]), ['major removed n.A#m: existing uses break']);
+});
+
 test('snapshots of names alone have no signatures, and each line says what is read of it', () => {
   const text = '# public names: entry, name, kind, files\nindex.ts: a const index.ts\nindex.ts: b class,type-only a.ts, b.ts\n"my file.ts": "x \\"y" ? \nindex.ts: f function f.ts  (a: 1):  2\n';
   assert.throws(() => readSurface(text, 's.txt'), /^Error: s\.txt:4:1: not a line of a snapshot, `ENTRY: NAME KIND FILES`; `--save s\.txt` rewrites it$/);
-  assert.throws(() => readSurface('index.ts a\n', 's.txt'), /^Error: s\.txt:1:1: not a line of a snapshot, `ENTRY: NAME KIND FILES`$/);
+  for (const it of ['index.ts a', 'index.ts: a  a.ts', 'index.ts: a ,type-only a.ts', 'index.ts: a const ', ': a const a.ts']) {
+    assert.throws(() => readSurface(`${it}\n`, 's.txt'), /^Error: s\.txt:1:1: not a line of a snapshot, `ENTRY: NAME KIND FILES`$/, it);
+  }
   const { items, isWhole } = readSurface(text.replace('? \n', '? x.ts\n'), 's.txt');
   assert.deepEqual([isWhole, items], [false, [
     item('a', 'const', { signature: null }), item('b', 'class', { isType: true, files: ['a.ts', 'b.ts'], signature: null }),

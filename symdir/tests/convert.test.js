@@ -383,7 +383,7 @@ test('a text that is nested too deep for the stack leaves nothing behind for the
 
 test('a comment isn\'t parsed for its tags, wherever it begins a line, and so may be nested as deep as it likes', () => {
   for (const name of ['a.ts', 'a.js']) {
-    for (const before of ['', '\n', ' \t', 'b;\r\n', 'b;\r', 'b;\u2028', 'b;\u2029\t', '/** c */\n', '#!/bin/sh\n']) {
+    for (const before of ['', '\n', ' \t', 'b;\r\n', 'b;\r', 'b;\u2028', 'b;\u2029\t', 'b;\n\u2028', 'b;\n\u2029\t', '/** c */\n', '#!/bin/sh\n']) {
       const { fault, nodes: made } = nodesOf(name, `${before}/** @type {${'['.repeat(20000)}1${']'.repeat(20000)}} */\nexport let a = 1;\n`, { ...languageOf(name), ...PLAIN });
       assert.deepEqual([fault, made?.filter((it) => it.kind === 'BindingIdent').length], [null, 1], JSON.stringify(before));
     }

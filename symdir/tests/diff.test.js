@@ -97,6 +97,10 @@ test('signatures, as they are written', () => {
   assert.equal(of('export class A extends B<1> implements C {}', 'export class A extends B<2> implements C {}'), 'major signature A');
   assert.equal(of('export interface A extends B {}', 'export interface A extends B, C {}'), 'major signature A');
   assert.equal(of('export class A { constructor(a: 1) {} }', 'export class A { constructor(a: 1, b?: 2) {} }'), 'minor signature A constructor');
+  // behind overloads the implementation isn't seen
+  for (const it of ['class A { constructor(a: 1); constructor(B) {} }', 'class A { b(a: 1): void; b(B) {} }', 'function b(a: 1): void;\nexport function b(B) {}']) {
+    assert.equal(of(`export ${it.replace('B', 'a: any')}`, `export ${it.replace('B', 'a: unknown, ...b: any[]')}`), '', it);
+  }
   assert.equal(of('export class A { readonly a?: 1; b(): 1 { } }', 'export class A { a?: 1; b(): 2 { } }'), 'major signature A#a,major signature A#b');
   assert.equal(of('export interface A { a: 1; [b: string]: 2; (c: 3): 4; new (d: 5): 6 }', 'export interface A { a?: 1; [b: string]: 3; (c: 4): 4; new (d: 6): 6 }'),
     'major signature A call,major signature A index,major signature A new,major signature A#a');
@@ -198,7 +202,7 @@ test('snapshots, git revisions and folders go together', () => {
   }
   assert.deepEqual(symdir(['diff', 'v1:lib', file], { cwd: folder }), { status: 0, stdout: 'the 2 public names and their members are the same\n', stderr: '' });
   const failed = (/** @type {string[]} */ ...words) => symdir(['diff', ...words], { cwd: folder });
-  assert.deepEqual(failed('v2', at), { status: 2, stdout: '', stderr: 'symdir: no such directory, snapshot or git revision: v2\n' });
+  for (const it of ['v2', ':lib', 'v2:lib', '--all:lib']) assert.deepEqual(failed('--', it, at), { status: 2, stdout: '', stderr: `symdir: no such directory, snapshot or git revision: ${it}\n` });
   assert.deepEqual(failed('v1:none', at), { status: 3, stdout: '', stderr: 'symdir: git archive v1: fatal: pathspec \'none\' did not match any files\n' });
   // a revision has a file of that name, and REVISION:DIR names a directory
   assert.deepEqual(failed('v1:lib/index.ts', at), { status: 2, stdout: '', stderr: 'symdir: no directory lib/index.ts in revision v1\n' });
