@@ -72,7 +72,7 @@ test('a file that isn\'t there counts as deleted: what would import it can chang
   const inner = folderOf({ 'in/a.ts': 'export const a = 1;\n' });
   const told = (/** @type {string} */ it) => `symdir: ${it} is a directory: name the files in it that changed, or --since REV\n`;
   assert.deepEqual(symdir(['affected', inner, 'in/a.ts', 'in/']), { status: 2, stdout: '', stderr: told('in') });
-  assert.deepEqual(symdir(['affected', inner, '.']), { status: 2, stdout: '', stderr: told('.') });
+  for (const it of [['.'], ['.', 'in'], ['in/a.ts', '.', 'in']]) assert.deepEqual(symdir(['affected', inner, ...it]), { status: 2, stdout: '', stderr: told('.') });
 });
 
 test('a file is named relative to the directory, or else to the current one, and may be one that isn\'t read', () => {
@@ -81,6 +81,17 @@ test('a file is named relative to the directory, or else to the current one, and
   assert.deepEqual(['a.ts', 'dir/a.ts'].map((it) => [of(it).files, namesOf(of(it))]), [[['a.ts'], ['index.ts a']], [['a.ts'], ['index.ts a']]]);
   const skipped = of('gen/b.ts', '--skip', '^gen/');
   assert.deepEqual([namesOf(skipped), skipped.lists, modulesOf(skipped)], [[], ['index.ts'], ['index.ts exports definitions']]);
+});
+
+test('three files and twenty modules are named, how many others there are, and by --all each', () => {
+  const files = Array.from({ length: 21 }, (_, i) => `m${i + 10}.ts`);
+  const folder = folderOf({ 'index.ts': 'export {};\n', ...Object.fromEntries(files.map((it) => [it, 'export const a = 1;\n'])) });
+  const told = (/** @type {number} */ count, /** @type {string[]} */ ...words) => symdir(['affected', folder, ...files.slice(0, count), ...words]).stdout.split('\n').slice(0, -1);
+  const rows = files.map((it) => `  ${it}  exports, definitions`);
+  assert.deepEqual(told(3), ['3 files changed: m10.ts, m11.ts, m12.ts', 'answers on 3 modules can change:', ...rows.slice(0, 3)]);
+  assert.deepEqual(told(20), ['20 files changed: m10.ts, m11.ts, m12.ts and 17 more', 'answers on 20 modules can change:', ...rows.slice(0, 20)]);
+  assert.deepEqual(told(21), ['21 files changed: m10.ts, m11.ts, m12.ts and 18 more', 'answers on 21 modules can change:', ...rows.slice(0, 20), '  and 1 more (--all)']);
+  assert.deepEqual(told(21, '--all'), [`21 files changed: ${files.join(', ')}`, 'answers on 21 modules can change:', ...rows]);
 });
 
 test('a configuration file is told by its name, wherever it stands', () => {

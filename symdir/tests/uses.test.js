@@ -154,6 +154,12 @@ test('of the names in a line those are asked that are declared there, and not on
   assert.deepEqual([asked('index.ts:1'), asked('index.ts:2'), asked('index.ts:1:10')], [['b'], ['a'], ['a']]);
 });
 
+test('uses are told by file, line and column, however they lead there', () => {
+  const many = folderOf({ 'a.ts': 'export * from "./d";\nimport { d } from "./d";\n', 'b.ts': 'import { d } from "./d";\nexport { d as e, d as f };\n', 'c.ts': 'export * from "./d";\n', 'd.ts': 'export const d = 1;\n' });
+  const [{ uses }] = answer(['uses', many, 'd.ts:1:14']);
+  assert.deepEqual(uses.map((/** @type {any} */ it) => `${it.file}:${it.line}:${it.column}`), ['a.ts:1:1', 'a.ts:2:10', 'b.ts:1:10', 'b.ts:2:10', 'b.ts:2:18', 'c.ts:1:1']);
+});
+
 test('two names that share a declaration are told with its uses each', () => {
   const shared = folderOf({ 'index.ts': 'import { A, A as B } from "./a";\nconst A = 1;\nexport { A, B };\n', 'a.ts': 'export interface A {}\n' });
   const places = ['1:10', '1:13', '3:10', '3:13'];

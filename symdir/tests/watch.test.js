@@ -4,12 +4,14 @@ import { mkdirSync, readdirSync, renameSync, rmSync, statSync, symlinkSync, writ
 import path from 'node:path';
 import test from 'node:test';
 
+import { Failure } from '../lib/failure.js';
 import { Configs } from '../lib/folder/configs.js';
 import { Files } from '../lib/folder/files.js';
 import { Folder } from '../lib/folder/folder.js';
 import { hashOf } from '../lib/folder/kept.js';
 import { Resolver } from '../lib/folder/resolve.js';
 import { Places } from '../lib/folder/text.js';
+import { findTypeScript } from '../lib/typescript.js';
 import { differenceOf, differentLines } from '../lib/watch/difference.js';
 import { Watch } from '../lib/watch/watch.js';
 import { Watched, Watchers } from '../lib/watch/watchers.js';
@@ -241,8 +243,11 @@ test('a file is read again only where its size or its times differ, or were thos
   const hash = () => new Watched(folder, [], hashes).hash(file);
   const known = new Files(folder, []).hash(file);
   assert.deepEqual([hash(), hashes.size], [known, 0]);
-  const later = Date.now() + 10_000;
+  // what is written within three seconds may have the same times
+  let later = Math.floor(statSync(file).ctimeMs) + 3000;
   const clock = t.mock.method(Date, 'now', () => later);
+  assert.deepEqual([hash(), hashes.size], [known, 0]);
+  later++;
   assert.deepEqual([hash(), hashes.get(file).hash], [known, known]);
   hashes.get(file).hash = 'that of before';
   assert.equal(hash(), 'that of before');
@@ -258,7 +263,7 @@ test('lines and declarations of a module are taken over where it is what it was,
   const of = (/** @type {string} */ text) => ({ hash: hashOf(text), references: [], declarations: [0, 1, 0, 0, 0] });
   const [same, torn, changed] = ['a', '\n\nb', 'c'].map(of);
   const folderWith = (/** @type {any} */ third, /** @type {string} */ file) => new Folder(/** @type {any} */ ({ modules: new Map([
-    ['a', { file: '/a', parsed: same }], ['b', { file: '/b', parsed: torn }], ['c', { file: '/c', parsed: third }], ['d', { file, parsed: same }]]) }), [], { last: null, results: null });
+    ['c', { file: '/c', parsed: third }], ['d', { file, parsed: same }], ['a', { file: '/a', parsed: same }], ['b', { file: '/b', parsed: torn }]]) }), [], { last: null, results: null });
   const [before, now] = [folderWith(changed, '/d'), folderWith(of('c'), '/other/d')];
   for (const it of ['a', 'b', 'c', 'd']) before.tableOf(it, same.declarations);
   // the file of `b` was empty for a moment, when its lines were looked for
@@ -266,6 +271,37 @@ test('lines and declarations of a module are taken over where it is what it was,
   now.takeOver(before);
   assert.deepEqual([[...now.places.keys()], [...now.tables.keys()]], [['a'], ['a', 'b']]);
   assert.deepEqual(now.places.get('a'), before.places.get('a'));
+});
+
+test('another TypeScript, by its file or its version, ends a watch', async () => {
+  const folder = folderOf({ 'index.ts': '' });
+  const watch = new Watch(/** @type {any} */ ({ folder, options: () => ({}) }));
+  watch.temporary.close();
+  const found = findTypeScript(folder);
+  for (const it of [undefined, { ...found, version: '4.7.0' }, { ...found, file: `${folder}/typescript.js` }]) {
+    watch.typescript = it;
+    await assert.rejects(watch.read(/** @type {any} */ ({ folder, skip: [] }), {}, []), { message: 'another TypeScript is installed: start again' });
+  }
+});
+
+test('what ends a watch: that something is lacking to work with, and neither an argument nor what a file has', () => {
+  const watch = new Watch(/** @type {any} */ ({ folder: '/', options: () => ({}) }));
+  watch.temporary.close();
+  const failures = [new Failure('a'), new Failure('a', 3, 'engine'), new Failure('a', 3, 'system'), new Failure('a', 2), new Failure('a', 2, 'setup')];
+  assert.deepEqual(failures.map((it) => watch.isLast(it)), [true, false, false, false, false]);
+});
+
+test('three of the files that changed are named, and how many others there are', () => {
+  /** @type {string[]} */
+  const told = [];
+  const watch = new Watch(/** @type {any} */ ({ folder: '/', options: () => ({}), print: (/** @type {string} */ it) => told.push(it), warn: (/** @type {string} */ it) => told.push(`! ${it}`) }));
+  watch.temporary.close();
+  const answer = (/** @type {string[]} */ ...lines) => ({ lines, faults: [], status: 0 });
+  for (const count of [2, 3, 4, 5]) watch.tellText(answer('a'), answer('a'), ['a', 'b', 'c', 'd', 'e'].slice(0, count));
+  assert.deepEqual(told.splice(0), ['a, b', 'a, b, c', 'a, b, c and 1 other', 'a, b, c and 2 others'].map((it) => `${it} changed: the answer is the same`));
+  // of faults those are told that weren't there before
+  watch.tellText({ lines: ['a'], faults: ['f'], status: 1 }, { lines: ['b'], faults: ['f', 'g'], status: 1 }, ['a']);
+  assert.deepEqual(told, ['a changed: the answer differs', '- a', '+ b', '! g']);
 });
 
 test('imports are resolved again where a file came or went or a configuration changed, and not where a module alone did', () => {
