@@ -202,6 +202,14 @@ test('large graphs: a ring, a ladder, a comb', () => {
   }
 });
 
+test('the largest group is told first, and of equal ones that of the first module', () => {
+  for (const [statement, key] of /** @type {const} */ ([['import "./TO";\n', 'cycles'], ['import type { T } from "./TO";\nexport type T = 1;\n', 'deferred']])) {
+    const files = Object.fromEntries(['fg', 'gf', 'ab', 'ba', 'cd', 'de', 'ec', 'hi', 'ih'].map(([from, to]) => [`${from}.ts`, statement.replace('TO', to)]));
+    const out = answer(['cycles', folderOf(files)]);
+    assert.deepEqual(out[key].map((/** @type {any} */ it) => it.modules.map((/** @type {string} */ one) => one[0]).join('')), ['cde', 'ab', 'fg', 'hi'], key);
+  }
+});
+
 test('what people read, and the status', () => {
   const files = { 'index.ts': 'import { b } from "./b";\nexport const a = () => b;\n', 'b.ts': 'import { a } from "./index";\nexport const b = a;\n' };
   assert.deepEqual(symdir(['cycles', folderOf(files)]), { status: 1, stderr: '', stdout: `import cycles: 1

@@ -144,6 +144,8 @@ test('data isn\'t told as unused, though an unused file alone imports it', () =>
 test('types that comments of JavaScript import are used', () => {
   const out = answer(['unused', folderOf({ 'index.js': '/** @type {import("./types").T} */\nexport let t;\n', 'types.ts': 'export type T = 1;\nexport type U = 2;\n' })]);
   assert.deepEqual([out.files, out.exports.map((/** @type {any} */ it) => it.name)], [[], ['U']]);
+  const whole = answer(['unused', folderOf({ 'index.js': '/** @type {typeof import("./types")} */\nexport let t;\n', 'types.ts': 'export type T = 1;\n' })]);
+  assert.deepEqual([whole.files, whole.exports], [[], []]);
 });
 
 test('types that comments of TypeScript import aren\'t used, as they aren\'t by TypeScript', () => {
