@@ -6,7 +6,8 @@
 // form, which any earlier run caches; and the command with what the run before cached: the trees and the graph, and of `api --html` and
 // `diff` the page and the surface. Both take the TypeScript in DIR, or the newest that is installed, and read the modules of TypeScript
 // below the directory. Both write what they find to a pipe. `diff` compares the directory with a copy, in which an entry exports one more
-// name: neither finds the second one cached where the first isn't.
+// name: neither finds the second one cached where the first isn't. The service describes what the page shows, and Graphviz draws the same
+// picture for both. Only the command writes HTML.
 // It prints the least times of the rounds, their ratios to the service's, on the clock and of the processors, and how much each found. The
 // last lines are a table: ratios on the clock, cold and cached.
 import { appendFileSync, cpSync, existsSync, mkdtempSync, rmSync } from 'node:fs';
@@ -21,7 +22,7 @@ const SERVICE = fileURLToPath(new URL('./service.mjs', import.meta.url));
 const USAGE = 'usage: node bench/commands.mjs [--rounds N] [--symq FILE] [--typescript DIR] [--commands NAME,..] FOLDER..';
 const SCRIPTS = ['--skip', '\\.[mc]?jsx?$'];
 
-/** @typedef {{ entries: string[], spot: string, other: string }} Asked what the service is told of a directory: its entries, the place of a public name, and a copy with one name more */
+/** @typedef {{ entries: string[], spot: string, other: string, picture: string }} Asked what the service is told of a directory: its entries, the place of a public name, a copy with one name more, and what Graphviz draws */
 /** @typedef {import('./measuring.mjs').Time} Time */
 
 /** @type {Record<string, (folder: string, asked: Asked) => string[]>} the words of each command */
@@ -57,12 +58,14 @@ function askedOf(folder, cache, copies) {
   const { entries, names: exported } = JSON.parse(timed([SYMDIR, 'api', folder, '--json', ...SCRIPTS], cache).stdout);
   const all = exported.flatMap((/** @type {any} */ it) => it.defined.filter((/** @type {any} */ one) => !one.by && it.name !== 'default'));
   const { file, line, column } = all[Math.floor(all.length / 2)];
-  return { entries, spot: `${file}:${line}:${column}`, other: names.includes('diff') ? copyOf(folder, entries[0], copies) : '' };
+  const picture = names.includes('api --html') ? timed([SYMDIR, 'web', folder, ...SCRIPTS], cache).stdout : '';
+  return { entries, spot: `${file}:${line}:${column}`, other: names.includes('diff') ? copyOf(folder, entries[0], copies) : '', picture };
 }
 
 /** @param {string} name @param {string} stdout of a command @returns {number} how much it found */
 function countOf(name, stdout) {
-  if (name === 'api --html') return stdout.split('<li class="row').length - 1;
+  // names and members
+  if (name === 'api --html') return stdout.split(/<li (?:class="row" )?data-name=/).length - 1;
   const out = JSON.parse(stdout);
   if (name === 'where') return out.flatMap((/** @type {any} */ it) => it.ways.filter((/** @type {any} */ one) => one.defined)).length;
   if (name === 'uses') return out.flatMap((/** @type {any} */ it) => it.uses.filter((/** @type {any} */ one) => one.how !== 'export *')).length;

@@ -1,5 +1,6 @@
 // What commands.mjs times beside the commands of symdir: TypeScript's language service and checker, doing the same by the searches that
 // the tests of symdir hold the commands to. node bench/service.mjs COMMAND FOLDER JSON prints how much it found.
+import { spawnSync } from 'node:child_process';
 import { existsSync, readFileSync } from 'node:fs';
 import { isBuiltin } from 'node:module';
 import path from 'node:path';
@@ -10,14 +11,15 @@ import { isCode, isJavaScript } from '../symdir/lib/language.js';
 import { syntaxOf, targetOf, webBy } from '../symdir/tests/definitions.js';
 import { Language, forEachNode, ts } from '../symdir/tests/language.js';
 import { leaksBy } from '../symdir/tests/leaking.js';
-import { edgesBy, referencesTo, surfaceBy, unusedBy } from '../symdir/tests/wanted.js';
+import { edgesBy, referencesTo, signatureText, surfaceBy, unusedBy } from '../symdir/tests/wanted.js';
 
 /** @typedef {import('./commands.mjs').Asked} Asked */
 /** @typedef {import('typescript').SourceFile} SourceFile */
+/** @typedef {import('typescript').Symbol} Symbol */
 
 const [command, folder, asked] = process.argv.slice(2);
 /** @type {Asked} */
-const { entries, spot, other } = JSON.parse(asked);
+const { entries, spot, other, picture } = JSON.parse(asked);
 
 /** @param {string} at the directory, or its copy @returns {Language} over the modules of TypeScript below it */
 function open(at) {
@@ -37,19 +39,40 @@ function namesBy(language) {
     name: it.name, places: (targetOf(language, it).declarations ?? []).map((one) => language.place(one.getSourceFile(), one.getStart())) })));
 }
 
-/** @param {Language} language @returns {number} how many public names and members have been described: kind, place, signature and comment */
-function describedBy(language) {
-  const items = surfaceBy(language, entries);
-  for (const file of entriesOf(language)) {
-    for (const it of language.exports(file)) {
-      const to = targetOf(language, it);
-      for (const one of [to, ...(to.members?.values() ?? [])]) {
-        one.getDocumentationComment(language.checker);
-        one.getJsDocTags(language.checker);
-      }
-    }
-  }
-  return items.size > 0 ? namesBy(language).length : 0;
+/** @param {Symbol} symbol @returns {boolean} whether the page lists it as a member: it can be named or called from outside */
+function isListed({ escapedName, flags, declarations = [] }) {
+  if (/^__(?!_|constructor$|call$|new$|index$)|^prototype$|^#/.test(`${escapedName}`) || (flags & ts.SymbolFlags.TypeParameter) !== 0) return false;
+  return escapedName === '__constructor' || !declarations.every((it) => (ts.getCombinedModifierFlags(it) & ts.ModifierFlags.Private) !== 0);
+}
+
+/** @param {Language} language @param {Symbol} symbol @returns {Symbol[]} its members, static ones and exports of a namespace too */
+function membersOf(language, symbol) {
+  const exports = symbol.declarations?.some(ts.isSourceFile) ? language.checker.getExportsOfModule(symbol) : [...symbol.exports?.values() ?? []];
+  return [...symbol.members?.values() ?? [], ...exports].filter(isListed);
+}
+
+/** @param {Language} language @param {Symbol} symbol @param {Set<Symbol>} around it and the namespaces that it is in @returns {number} how many symbols are described: it, and what stands in it */
+function described(language, symbol, around) {
+  const { declarations = [], flags } = symbol;
+  const isKnown = declarations.every((it) => language.place(it.getSourceFile(), it.getStart()) !== '' && signatureText(it) !== '' && flags !== 0);
+  ts.displayPartsToString(symbol.getDocumentationComment(language.checker));
+  for (const { text } of symbol.getJsDocTags(language.checker)) ts.displayPartsToString(text);
+  const members = membersOf(language, symbol).map((it) => targetOf(language, it)).filter((it) => !around.has(it));
+  return members.reduce((sum, it) => sum + described(language, it, new Set([...around, it])), isKnown ? 1 : 0);
+}
+
+/**
+ * Describes what the page of `api --html` shows: of each public name and of each member the kind, the place of each declaration, the signature
+ * as it is written, and the doc comment with its tags; and from which module to which each name passes. Graphviz draws the picture of that for
+ * both, of the same text. It writes no HTML.
+ * @param {Language} language
+ * @returns {number} how many public names and members there are
+ */
+function pageBy(language) {
+  const names = entriesOf(language).flatMap((file) => language.exports(file).map((it) => targetOf(language, it)));
+  webBy(language, entries);
+  spawnSync('dot', ['-Tsvg'], { input: picture, maxBuffer: 1 << 28 });
+  return names.reduce((sum, it) => sum + described(language, it, new Set([it])), 0);
 }
 
 /** @param {string} at a directory @param {string} name of a package @returns {boolean} whether a package.json there or above it, as far as the directory of the run, names it */
@@ -113,7 +136,7 @@ function spotOf() {
 /** @type {Record<string, (language: Language) => number>} how much is found */
 const SEARCHES = {
   api: (language) => namesBy(language).length,
-  'api --html': describedBy,
+  'api --html': pageBy,
   leaks: (language) => leaksBy(language, entries).length,
   missing: lackingBy,
   where: (language) => {

@@ -54,7 +54,7 @@ test('bench/commands.mjs says how it is called', () => {
   assert.match(stdout, /\n\| command \| new \|\n\|---\|---\|\n\| `api` \| [\d.]+; [\d.]+ \|\n\| `uses` \| [\d.]+; [\d.]+ \|\n$/);
 });
 
-test('what bench/commands.mjs times finds as much: a syntax error is missing, and ways of names are edges', () => {
+test('what bench/commands.mjs times finds as much: a syntax error is missing, ways of names are edges, and a page has members', () => {
   const counts = (/** @type {string} */ commands, /** @type {Record<string, string>} */ files) => {
     const { status, stdout } = run(process.execPath, ['bench/commands.mjs', '--rounds', '1', '--commands', commands, '--symq', findSymq(undefined), folderOf(files)]);
     assert.equal(status, 0);
@@ -69,6 +69,11 @@ test('what bench/commands.mjs times finds as much: a syntax error is missing, an
   const inner = { 'in/a.ts': 'import "inner";\nexport const y = 1;\nexport const z = 2;\n', 'in/package.json': '{"peerDependencies":{"inner":"1"}}' };
   const named = { 'package.json': '{"dependencies":{"named":"1"},"devDependencies":{"@s/named":"1"}}', 'a.css': '' };
   assert.deepEqual(counts('missing,unused', { 'index.ts': imports.join('\n'), 'tests/t.ts': 'export const t = 1;\n', ...inner, ...named }), ['symdir 3, service 3', 'symdir 1, service 1']);
+  // four names, and as members six of A, two of E and four of I
+  assert.deepEqual(counts('api --html', {
+    'index.ts': '/** A. */\nexport class A { private own = 1; shown = 1; static make() {} constructor(readonly at: number) {} }\nexport namespace A { export interface In { x: number } const own = 1; }\n'
+      + 'export enum E { One, Two }\nexport interface I { (a: string): void; new (b: string): I; [key: string]: any; m(): void }\nexport * from "./b";\n', 'b.ts': 'export const b = 1;\n',
+  }), ['symdir 16, service 16']);
   assert.deepEqual(counts('unused', { 'tests/a.ts': 'import { t } from "./t";\nexport const a = t;\n', 'tests/t.ts': 'export const t = 1, u = 2;\n' }), ['symdir 1, service 1']);
 });
 

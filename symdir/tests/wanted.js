@@ -286,7 +286,7 @@ function knownOf({ flags, declarations = [] }) {
 }
 
 /** @param {Node} it @returns {string | null} its type parameters, parameters and type as they are written; null where it has none of them */
-function signatureText(it) {
+export function signatureText(it) {
   const text = (/** @type {readonly Node[] | undefined} */ list) => list?.map((one) => one.getText()).join(', ');
   if (ts.isFunctionDeclaration(it) || ts.isMethodDeclaration(it) || ts.isMethodSignature(it)) {
     const params = it.typeParameters ? `<${text(it.typeParameters)}>` : '';
