@@ -1,7 +1,7 @@
 import assert from 'node:assert/strict';
 import { spawn, spawnSync } from 'node:child_process';
 import { once } from 'node:events';
-import { cpSync, mkdirSync, readdirSync, readFileSync, rmSync, utimesSync, writeFileSync } from 'node:fs';
+import { cpSync, mkdirSync, readdirSync, readFileSync, rmSync, statSync, utimesSync, writeFileSync } from 'node:fs';
 import path from 'node:path';
 import test from 'node:test';
 import { setTimeout } from 'node:timers/promises';
@@ -332,6 +332,24 @@ test('what is made of TypeScript is kept, and made anew where it is none', () =>
   rmSync(trees);
   assert.deepEqual(run(), first);
   assert.notDeepEqual(readFileSync(compiled), Buffer.from('no compiled form'));
+});
+
+test('what is made of TypeScript is taken by the next run, and stays as it is, where a text was long too', () => {
+  for (const text of ['export const a = 1;\n', `export const a = 1;\n// ${'x'.repeat(1_000_000)}\n`]) {
+    const cache = folderOf({});
+    const folder = folderOf({ 'index.ts': text });
+    const run = () => assert.equal(symdir(['api', folder], { env: { XDG_CACHE_HOME: cache } }).status, 0);
+    const written = () => {
+      const files = readdirSync(path.join(cache, 'symdir')).map((it) => path.join(cache, 'symdir', it));
+      files.filter((it) => it.endsWith('.trees')).forEach((it) => rmSync(it));
+      return files.filter((it) => it.endsWith('.compiled')).map((it) => statSync(it, { bigint: true }).mtimeNs);
+    };
+    run();
+    const first = written();
+    assert.equal(first.length, 1);
+    run();
+    assert.deepEqual(written(), first, `${text.length} characters`);
+  }
 });
 
 test('--no-cache keeps nothing, and a cache folder that can\'t be written does no harm', () => {

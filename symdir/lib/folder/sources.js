@@ -3,6 +3,7 @@ import path from 'node:path';
 
 import { isCode, isJavaScript } from '../language.js';
 import { counted } from '../output.js';
+import { saveMemory } from '../tree/budget.js';
 import { Configs } from './configs.js';
 import { sourcesOf } from './endings.js';
 import { packageFile } from './packages.js';
@@ -24,6 +25,9 @@ import { ambientSpecifier, shortOf } from './specifier.js';
 
 /** The configuration files of the folder that are looked at in any case. */
 const CONFIGS = ['package.json', 'deno.json', 'deno.jsonc', 'tsconfig.json', 'jsconfig.json'];
+
+/** Where trees have so many bytes, all that is made of them takes much memory. */
+const MUCH = 16_000_000;
 
 /** @param {string} text of an import @returns {boolean} whether it is a path, which no `declare module` can name but by a star */
 function isPath(text) {
@@ -55,6 +59,15 @@ export class Sources {
     this.pool = undefined;
     /** @type {Set<string>} what files that are no modules declare by `declare module "name"` */
     this.ambient = new Set();
+    /** How many bytes the trees have. */
+    this.size = 0;
+  }
+
+  /** @param {Parsed} parsed a tree that is there from then on */
+  count({ text }) {
+    const isFew = this.size < MUCH;
+    this.size += text.length;
+    if (isFew && this.size >= MUCH && !this.reading.typescript) saveMemory();
   }
 
   /** @param {string} file absolute @returns {string} */
@@ -140,6 +153,7 @@ export class Sources {
     for (const file of wanted) {
       const specifier = this.specifierOf(file);
       const known = this.known(file, specifier);
+      if (known) this.count(known.parsed);
       if (known) found.set(file, known.parsed);
       else jobs.push({ file, specifier });
       if (known?.isNew) taken++;
@@ -151,6 +165,7 @@ export class Sources {
     }
     await this.pool?.parse(jobs, (file, made, error) => {
       this.reading.progress(++done < jobs.length ? `parsed ${done} of ${counted(jobs.length, 'file')}` : '');
+      if (made) this.count(made);
       if (made) found.set(file, made);
       else this.unread.push({ file: this.files.below(file), error: error ?? '' });
       // looked up while other files are parsed, so that it is known when all are

@@ -7,7 +7,7 @@ import { Script } from 'node:vm';
 
 import { findTypeScript } from '../typescript.js';
 import { replaceFile } from '../write.js';
-import { optimize } from './budget.js';
+import { optimize, saveMemory } from './budget.js';
 import { LONG_TEXT } from './memory.js';
 import { usedTypeScript } from './which.js';
 
@@ -114,7 +114,10 @@ export function storeCompiled() {
   try {
     mkdirSync(path.dirname(which.kept), { recursive: true });
     if (!kept) replaceFile(`${which.kept}.js`, [Buffer.from(text)]);
+    // V8 takes it only where it is set as it was then
+    if (!which.isGuest) optimize(true);
     replaceFile(`${which.kept}.compiled`, [loaded.script.createCachedData()]);
+    if (!which.isGuest) saveMemory();
   } catch {
     // a cache folder that can't be written costs time alone
   }
