@@ -16,10 +16,20 @@ function lacking({ items, keys }, others) {
   });
 }
 
+/** @type {WeakMap<unknown[], string[]>} by list of an answer, which is compared with the one before and with the one after it */
+const KEYS = new WeakMap();
+
+/** @param {unknown[]} items of an answer, which stay as they are @returns {string[]} a text of each */
+function keysOf(items) {
+  const known = KEYS.get(items) ?? items.map((it) => JSON.stringify(it));
+  KEYS.set(items, known);
+  return known;
+}
+
 /** @param {unknown} value @returns {List} what is no list as its only item, and nothing as none */
 function listOf(value) {
-  const items = value === undefined ? [] : [value].flat();
-  return { items, keys: items.map((it) => JSON.stringify(it)) };
+  const items = Array.isArray(value) ? value : value === undefined ? [] : [value];
+  return { items, keys: keysOf(items) };
 }
 
 /** @param {Record<string, unknown>} before @param {Record<string, unknown>} now @returns {Difference} of answers of `--json` */
@@ -52,16 +62,16 @@ function nameOf(head) {
 }
 
 /** @param {Line[]} lines @returns {string[]} each with the name of its head */
-function keysOf(lines) {
+function lineKeys(lines) {
   return lines.map(({ text, head }) => `${nameOf(head)}\n${text}`);
 }
 
 /** @param {Line[]} lines @param {Line[]} others @returns {Set<number>} the places of those that the others lack */
 function lackingLines(lines, others) {
-  const rows = keysOf(lines);
+  const rows = lineKeys(lines);
   /** @type {Map<string, number>} */
   const counts = new Map();
-  for (const it of keysOf(others)) counts.set(it, (counts.get(it) ?? 0) + 1);
+  for (const it of lineKeys(others)) counts.set(it, (counts.get(it) ?? 0) + 1);
   return new Set(rows.flatMap((it, i) => {
     const left = counts.get(it) ?? 0;
     counts.set(it, left - 1);

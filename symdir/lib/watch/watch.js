@@ -51,7 +51,18 @@ const NAMED = 3;
  * @property {string[]} lines
  * @property {string[]} faults lines for standard error
  * @property {number} status
+ * @property {any} [value] that of the lines, where these are JSON and it was looked at
  */
+
+/** @param {Answer} it with `--json` @returns {any} its value, which is parsed once */
+function valueOf(it) {
+  return (it.value ??= JSON.parse(it.lines.join('\n')));
+}
+
+/** @param {string[]} a @param {string[]} b @returns {boolean} */
+function isSameText(a, b) {
+  return a.length === b.length && a.every((it, i) => it === b[i]);
+}
 
 export class Watch {
   /** @param {Asked} asked */
@@ -273,7 +284,7 @@ export class Watch {
   /** @param {Answer} answer */
   tellFirst(answer) {
     answer.faults.forEach(this.asked.warn);
-    if (this.isJson) this.asked.print(JSON.stringify({ answer: JSON.parse(answer.lines.join('\n')), faults: answer.faults, status: answer.status }));
+    if (this.isJson) this.asked.print(JSON.stringify({ answer: valueOf(answer), faults: answer.faults, status: answer.status }));
     else answer.lines.forEach(this.asked.print);
     this.last = answer;
   }
@@ -299,7 +310,7 @@ export class Watch {
   /** @param {Answer} answer @param {Set<string>} changed @param {string[]} heard */
   tell(answer, changed, heard) {
     const before = /** @type {Answer} */ (this.last);
-    const isSame = JSON.stringify(answer) === JSON.stringify(before);
+    const isSame = answer.status === before.status && isSameText(answer.lines, before.lines) && isSameText(answer.faults, before.faults);
     this.last = answer;
     if (isSame && changed.size === 0 && this.failed === '') return;
     this.failed = '';
@@ -310,8 +321,7 @@ export class Watch {
 
   /** @param {Answer} before @param {Answer} now @param {string[]} files */
   tellJson(before, now, files) {
-    const [old, fresh] = [before, now].map((it) => JSON.parse(it.lines.join('\n')));
-    this.asked.print(JSON.stringify({ files, ...differenceOf(old, fresh), faults: now.faults, status: now.status }));
+    this.asked.print(JSON.stringify({ files, ...differenceOf(valueOf(before), valueOf(now)), faults: now.faults, status: now.status }));
   }
 
   /** @param {Answer} before @param {Answer} now @param {string[]} files */
