@@ -196,7 +196,7 @@ async function check(run, folder) {
 async function drawn(run, folder) {
   if (run.report.format !== 'html') return '';
   // what makes the page is loaded while symq reads the graph
-  const [{ pictureHtml }] = await Promise.all([import('../report/picture.js'), import('../report/api.js'), import('../report/html.js')]);
+  const [{ pictureHtml }] = await Promise.all([import('../report/picture.js'), import('../report/html.js')]);
   return pictureHtml(run, folder);
 }
 
@@ -205,6 +205,12 @@ async function withDocs(folder, answer) {
   const { described, docLines } = await import('../report/described.js');
   const names = await described(folder, answer);
   return { ...await answer, names, docLines };
+}
+
+/** @param {Run} run @param {Folder} folder @param {import('../report/api.js').Answer} answer @param {Promise<string>} picture of a page @returns {Promise<string | Buffer>} in the format that the run reports in, what makes the other one isn't loaded */
+async function bodyOf(run, folder, answer, picture) {
+  if (run.report.format === 'html') return (await import('../report/html.js')).page(run, folder, answer, picture);
+  return (await import('../report/api.js')).apiMarkdown(run, answer);
 }
 
 /** @param {Run} run @param {Folder} folder @returns {Promise<number>} the status, with the page of the run before where that is kept */
@@ -249,8 +255,7 @@ async function reported(run, folder) {
   const entries = folder.entries.map((it) => folder.short(it));
   report.found.rest(apiFindings(folder, answer), (it) => it);
   if (report.format === 'markdown' || report.format === 'html') {
-    const { apiReport } = await import('../report/api.js');
-    report.body = await apiReport(run, folder, { ...answer, entries, names: /** @type {any} */ (names) }, picture);
+    report.body = await bodyOf(run, folder, { ...answer, entries, names: /** @type {any} */ (names) }, picture);
   } else if (options.json) {
     report.json({ entries, names, ...(options.strict && { shared }), open, ...(declared.length > 0 && { declared }), ...(unlisted.length > 0 && { unlisted }) });
   } else for (const it of entries) printEntry(run, it, answer);

@@ -195,6 +195,11 @@ export class Folder {
     return found;
   }
 
+  /** @param {string} specifier of a module with a tree @param {Buffer} text as its tree has it: its file needn't be read again for places */
+  takeText(specifier, text) {
+    if (!this.places.has(specifier)) this.places.set(specifier, new Places(text));
+  }
+
   /** @param {string} specifier @param {number} at in bytes @returns {{ file: string, line: number, column: number }} */
   place(specifier, at) {
     return { file: this.short(specifier), ...this.placesOf(specifier).place(at) };

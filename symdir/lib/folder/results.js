@@ -41,10 +41,10 @@ function filesIn(folder) {
 /** @type {string | undefined} */
 let made;
 
-/** @returns {string} changes with this package, as it was when this was first asked */
+/** @returns {string} changes with this package, as it was when this was first asked: each file of it is told from others as a program is */
 function maker() {
   const own = made === undefined ? filesIn(fileURLToPath(new URL('../', import.meta.url))).sort() : [];
-  return (made ??= hashOf(own.map((it) => `${it}\n${readFileSync(it, 'latin1')}`).join('\n')));
+  return (made ??= hashOf(own.map(identityOf).join('\n')));
 }
 
 /** What stands at the end of what is whole. */

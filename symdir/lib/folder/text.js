@@ -14,9 +14,9 @@ export function decoded(bytes) {
 
 /** Lines and columns of places in a text, which are told in bytes of UTF-8. */
 export class Places {
-  /** @param {string} text */
+  /** @param {string | Buffer} text */
   constructor(text) {
-    this.bytes = Buffer.from(text);
+    this.bytes = typeof text === 'string' ? Buffer.from(text) : text;
     /** @type {string | undefined} of the text, where that is asked for */
     this.hash = undefined;
     /** @type {number[]} */

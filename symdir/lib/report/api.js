@@ -1,4 +1,4 @@
-// The public API as Markdown, or as a page.
+// The public API as Markdown.
 import { byName, counted } from '../output.js';
 import { firstSentence } from '../surface/docs.js';
 import { withName } from './described.js';
@@ -6,7 +6,6 @@ import { baselineMarkdown } from './findings-markdown.js';
 import { code, document, placeCode, prose, table } from './markdown.js';
 
 /** @typedef {import('../cli.js').Run} Run */
-/** @typedef {import('../folder/folder.js').Folder} Folder */
 /** @typedef {import('./described.js').Described} Described */
 /** @typedef {Omit<import('../commands/api.js').Answer, 'names'> & { entries: string[], names: Described[] }} Answer */
 /** @typedef {import('./rules.js').Finding} Finding */
@@ -40,10 +39,7 @@ function markdown(answer, findings, isWhole, baseline) {
   return document([...entryBlocks(answer, isWhole), list.length > 0 ? [`**${counted(list.length, 'finding')}**`, '', ...list] : [], baselineMarkdown(baseline)]);
 }
 
-/** @param {Run} run @param {Folder} folder @param {Answer} answer @param {Promise<string>} drawn the picture of a page @returns {Promise<string | Buffer>} in the format that the run reports in */
-export async function apiReport(run, folder, answer, drawn) {
-  const { report, options } = run;
-  if (report.format === 'markdown') return markdown(answer, report.found.all, options.all ?? false, report.baselineLines());
-  const { page } = await import('./html.js');
-  return page(run, folder, answer, drawn);
+/** @param {Run} run @param {Answer} answer @returns {string} */
+export function apiMarkdown({ report, options }, answer) {
+  return markdown(answer, report.found.all, options.all ?? false, report.baselineLines());
 }

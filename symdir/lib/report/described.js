@@ -51,6 +51,7 @@ const MODIFIERS = /^((?:(?:static|readonly|const|abstract|protected|declare|acce
 
 /** @param {string} signature @returns {{ before: string, after: string }} what is written before the name, with a space behind it, and what after, with one before it if it takes one */
 export function aroundName(signature) {
+  if (/^[(<:?]/.test(signature)) return { before: '', after: signature };
   const [, words, rest] = /** @type {RegExpExecArray} */ (MODIFIERS.exec(signature));
   return { before: words === '' ? '' : `${words.trim()} `, after: /^[(<:?]/.test(rest) || rest === '' ? rest : ` ${rest}` };
 }

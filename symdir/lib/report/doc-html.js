@@ -4,6 +4,7 @@ import { escaped } from './escape.js';
 
 /** @param {string} text @returns {string} a line with code between backticks */
 function inline(text) {
+  if (!/[`{]/.test(text)) return escaped(text);
   return unlinked(text, (it) => `\`${it}\``).split(/`([^`]+)`/).map((it, i) => (i % 2 === 1 ? `<code>${escaped(it)}</code>` : escaped(it))).join('');
 }
 
@@ -19,16 +20,28 @@ function paragraph(text) {
   return `${before}<ul>${items.map((it) => `<li>${inline(it.trim().replace(/\s*\n\s*/g, ' '))}</li>`).join('')}</ul>`;
 }
 
+/** @param {string} text without fences @returns {string} */
+function paragraphs(text) {
+  return text.trim().split(/\n\s*\n/).filter((it) => it !== '').map(paragraph).join('');
+}
+
 /** @param {string} text @returns {string} paragraphs, and code between fences */
 function blocks(text) {
+  if (!text.includes('```')) return paragraphs(text);
   return text.split(/^\s*```.*\n([^]*?)(?:^\s*```.*$|(?![^]))/m).map((it, i) => {
     if (i % 2 === 1) return `<pre><code>${escaped(it.replace(/\n$/, ''))}</code></pre>`;
-    return it.trim().split(/\n\s*\n/).filter((one) => one !== '').map(paragraph).join('');
+    return paragraphs(it);
   }).join('');
+}
+
+/** @param {string} text @returns {string} without empty lines before and spaces after it */
+function trimmed(text) {
+  return text.replace(/^\n+/, '').trimEnd();
 }
 
 /** @param {string} doc @returns {{ tag: string, text: string }[]} what stands before the first tag, and each tag, fences kept whole */
 function sections(doc) {
+  if (!doc.includes('@')) return [{ tag: '', text: trimmed(doc) }];
   const found = [{ tag: '', text: '' }];
   let isFenced = false;
   for (const line of doc.split('\n')) {
@@ -37,7 +50,7 @@ function sections(doc) {
     if (tag) found.push({ tag, text: rest });
     else found[found.length - 1].text += `\n${line}`;
   }
-  return found.map(({ tag, text }) => ({ tag, text: text.replace(/^\n+|\s+$/g, '') }));
+  return found.map(({ tag, text }) => ({ tag, text: trimmed(text) }));
 }
 
 /** @param {{ tag: string, text: string }} section @returns {string} */

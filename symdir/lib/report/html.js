@@ -31,7 +31,7 @@ function script() {
 
 /** @param {{ kind: string, isType?: boolean, doc: string }} it @returns {string} */
 function kindHtml({ kind, isType = false, doc }) {
-  const words = [kind || 'external', ...(isType ? ['type-only'] : []), ...(/^\s*@deprecated\b/m.test(doc) ? ['deprecated'] : [])];
+  const words = [kind || 'external', ...(isType ? ['type-only'] : []), ...(doc.includes('@deprecated') && /^\s*@deprecated\b/m.test(doc) ? ['deprecated'] : [])];
   return words.map((it) => `<span class="kind">${escaped(it)}</span>`).join(' ');
 }
 

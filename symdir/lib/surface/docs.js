@@ -26,13 +26,17 @@ export function textOf(comment) {
 
 /** A declaration in one of these has the comment before all of it. */
 const AROUND = new Set(['ExportDecl decl', 'ExportDefaultDecl decl']);
-const VARIABLES = /^(Var|Using)Decl decls$/;
+const VARIABLES = new Set(['VarDecl decls', 'UsingDecl decls']);
+/** A comment on the line of what precedes one of these belongs to it. */
+const LISTED = new Set([...VARIABLES, 'Constructor params']);
 
 /** @param {import('../uses/tree.js').Tree} tree @param {number} i a declaration @returns {number} what its comment precedes */
 function outermost(tree, i) {
   let at = i;
   for (;;) {
-    const isFirst = VARIABLES.test(tree.stand(at)) && tree.nodes[tree.above[at]].decls[0] === at;
+    // most stand in another field
+    if (tree.field[at] !== 'decl' && tree.field[at] !== 'decls') return at;
+    const isFirst = VARIABLES.has(tree.stand(at)) && tree.nodes[tree.above[at]].decls[0] === at;
     if (!isFirst && !AROUND.has(tree.stand(at))) return at;
     at = tree.above[at];
   }
@@ -65,7 +69,7 @@ export class Docs {
     const at = outermost(all.tree, found);
     const from = all.tree.nodes[at].range[0];
     const before = this.endBefore(module, from);
-    const isListed = /^(Var|Using)Decl decls$|^Constructor params$/.test(all.tree.stand(at));
+    const isListed = LISTED.has(all.tree.stand(at));
     const comment = lastComment(all.slice(before, from), before === 0, isListed);
     return comment === null ? '' : textOf(comment);
   }

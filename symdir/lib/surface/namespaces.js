@@ -73,7 +73,7 @@ export class Namespaces {
     for (let at = i; at >= 0 && !owners.has(at); at = tree.above[at]) {
       name = nameOf(tree, at) ?? name;
       if (isNamespace(tree.nodes[at])) names.push(name ?? '');
-      if (tree.stand(at) === 'TsModuleBlock body' && !this.isExposed(at, name)) return null;
+      if (tree.field[at] === 'body' && tree.stand(at) === 'TsModuleBlock body' && !this.isExposed(at, name)) return null;
     }
     return names.reverse();
   }

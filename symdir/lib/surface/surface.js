@@ -75,7 +75,11 @@ class Gathering {
   /** @param {string} module @returns {Signatures} */
   signatures(module) {
     let found = this.written.get(module);
-    if (!found) this.written.set(module, (found = new Signatures(this.treeOf(module))));
+    if (!found) {
+      const tree = this.treeOf(module);
+      this.written.set(module, (found = new Signatures(tree)));
+      if (tree.nodes.length > 0) this.folder.takeText(module, found.bytes);
+    }
     return found;
   }
 

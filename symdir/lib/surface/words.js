@@ -16,9 +16,12 @@
 function wordsOf({ nodes }) {
   /** @type {Words} */
   const found = { exports: new Map(), imports: new Map(), stars: new Set() };
-  for (const { kind, src, specifiers = [], type_only: all } of nodes) {
+  for (const node of nodes) {
+    const { kind } = node;
+    // most nodes are none of these, of which alone more is read
+    if (kind !== 'Import' && kind !== 'ExportNamed' && kind !== 'ExportAll') continue;
+    const { src, specifiers = [], type_only: all } = node;
     if (kind === 'ExportAll' && all) found.stars.add(src);
-    if (kind !== 'Import' && kind !== 'ExportNamed') continue;
     for (const it of specifiers.map((/** @type {number} */ at) => nodes[at])) {
       const { own, name } = kind === 'Import' ? imported(nodes, it) : exported(nodes, it);
       found[kind === 'Import' ? 'imports' : 'exports'].set(own, { text: src ?? null, name, isType: Boolean(all || it.type_only) });
