@@ -150,6 +150,27 @@ test('options of the directory and its entries change; what fails is told, and m
   });
 });
 
+test('entries are those of modules that no other one imports, and then those that packages name, whatever module changes', async () => {
+  const folder = folderOf({ 'a.ts': 'export const a = 1;\n', 'b.ts': 'export const b = 1;\n', 'in/c.ts': 'export const c = 1;\n' });
+  const write = writer(folder);
+  await watched(['api', folder], async (watching) => {
+    for (const text of ['export * from "./b";\n', 'export const more = 1;\n', 'export * from "./in/c";\n']) {
+      write('a.ts', text);
+      await watching.settled(1);
+    }
+    for (const main of ['./b.ts', './a.ts', './none.ts']) {
+      write('package.json', { main });
+      await watching.settled(1);
+      write('b.ts', `export const b = "${main}", d = 1;\nexport const ${main.replace(/\W/g, '')} = 1;\n`);
+      await watching.settled(1);
+    }
+    write('in/package.json', { exports: './c.ts' });
+    await watching.settled(1);
+    write('in/c.ts', 'export const c = 1, e = 1;\n');
+    await watching.settled(1);
+  });
+});
+
 test('what differs as text, with the lines that it stands under', async () => {
   const folder = folderOf({ 'index.ts': 'export * from "./a";\n', 'a.ts': 'export const n = 1;\n', 'b.ts': '' });
   const write = writer(folder);

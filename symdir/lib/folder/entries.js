@@ -67,14 +67,8 @@ function roots(sources) {
   return [own, found, all].find((it) => it.length > 0) ?? [];
 }
 
-/**
- * The specifiers of the modules that users import: those that are named; else what the package says, or each package in the
- * folder; else the usual one; else those that no other module imports.
- * @param {Sources} sources
- * @param {string[]} words of `--entry`
- * @returns {string[]}
- */
-export function entriesOf(sources, words) {
+/** @param {Sources} sources @param {string[]} words of `--entry` @returns {string[]} the entries by what is named, by packages and by names of files; none where these say nothing */
+function saidEntries(sources, words) {
   if (words.length > 0) return [...new Set(words.map((it) => named(sources, it)))];
   const own = saidBy(sources, sources.folder);
   if (own.length > 0) return [...new Set(own)];
@@ -86,5 +80,23 @@ export function entriesOf(sources, words) {
     const said = saidBy(sources, it);
     return said.length > 0 ? said : usual(sources, it);
   });
-  return inner.length > 0 ? [...new Set(inner)] : roots(sources);
+  return [...new Set(inner)];
+}
+
+/** @type {WeakMap<import('./resolve.js').Resolver, { key: string, found: string[] }>} what was said by the files and the configurations that it resolves by */
+const SAID = new WeakMap();
+
+/**
+ * The specifiers of the modules that users import: those that are named; else what the package says, or each package in the
+ * folder; else the usual one; else those that no other module imports.
+ * @param {Sources} sources
+ * @param {string[]} words of `--entry`
+ * @returns {string[]}
+ */
+export function entriesOf(sources, words) {
+  const key = JSON.stringify([words, [...sources.modules.keys()]]);
+  const known = SAID.get(sources.resolver);
+  const found = known?.key === key ? known.found : saidEntries(sources, words);
+  SAID.set(sources.resolver, { key, found });
+  return found.length > 0 ? found : roots(sources);
 }

@@ -1,5 +1,6 @@
 // Answers of symq that stay while sources change: those whose inputs are what they were. Others are asked again, on a graph of the modules
 // that they may rest on alone, and symq's `inputs` say whether these are all.
+import { rmSync } from 'node:fs';
 import path from 'node:path';
 
 import { piecesOf } from '../folder/graph.js';
@@ -116,6 +117,8 @@ export class Answers {
     modules.forEach((it) => this.wanted.add(it));
     const sources = /** @type {Sources} */ (this.sources);
     this.part = reachedFrom(sources, this.wanted);
+    // a file that takes the place of one is written to the disk at once
+    rmSync(this.graph, { force: true });
     replaceFile(this.graph, piecesOf(partOf(sources, this.part)));
     this.symq = new Symq(this.program, this.graph);
     return this.symq;
