@@ -5,10 +5,13 @@ import path from 'node:path';
 import test from 'node:test';
 
 import { answer, folderOf, symdir } from './helper.js';
+import { surfaceFor } from '../lib/commands/diff.js';
 import { begin } from '../lib/folder/begin.js';
 import { Sources } from '../lib/folder/sources.js';
+import { findSymq } from '../lib/program.js';
 import { parametersOf } from '../lib/surface/parameters.js';
 import { oneLine } from '../lib/surface/signature.js';
+import { Tree } from '../lib/uses/tree.js';
 
 /** @param {string | Record<string, string>} before @param {string | Record<string, string>} now texts of index.ts, or files @returns {string[]} */
 function diff(before, now) {
@@ -271,6 +274,21 @@ test('trees of files that both sides have alike are made once', async () => {
   assert.deepEqual(texts, (await read(now, new Map())).texts);
   assert.deepEqual((await read(now, trees)).parsed, []);
   for (const how of [{ bodies: true }, { ambient: false }]) assert.equal((await read(now, trees, how)).parsed.length, 5);
+});
+
+test('trees of files that both sides have alike are looked through once', async (t) => {
+  const old = { 'index.ts': 'export * from "./a";\nexport * from "./b";\n', 'a.ts': 'export const a: 1;\n', 'b.ts': 'export class B { b(c: 1): 2 }\n' };
+  const [before, now] = [old, { ...old, 'a.ts': 'export const a: 2;\n' }].map(folderOf);
+  const run = /** @type {any} */ ({ options: {}, report: {}, warn: () => assert.fail('a fault is told') });
+  const how = (/** @type {import('../lib/folder/begin.js').Trees} */ trees) => ({ read: (/** @type {string} */ folder) => ({ ...READING, folder }), asked: { symq: findSymq(undefined) }, trees });
+  const { items: alone } = await surfaceFor(run, now, how(new Map()));
+  const read = t.mock.method(Tree, 'of');
+  const both = how(new Map());
+  const signatures = [];
+  for (const it of [before, now]) signatures.push((await surfaceFor(run, it, both)).items.map((one) => `${one.name}${one.signature}`));
+  assert.deepEqual(signatures, [['a: 1', 'B', 'B#b(c: 1): 2'], alone.map((one) => `${one.name}${one.signature}`)]);
+  // three of the first one, and the one that differs
+  assert.deepEqual(read.mock.calls.length, 4);
 });
 
 test('trees of files that the other side has alike are cached for each side', () => {

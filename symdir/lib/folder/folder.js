@@ -46,6 +46,8 @@ export class Folder {
     this.keeping = undefined;
     /** @type {Map<string, Places>} */
     this.places = new Map();
+    /** @type {Map<string, Buffer>} those of modules whose trees were read */
+    this.texts = new Map();
     /** @type {Map<string, Map<number, number[]>>} by module and start where in its list of declarations they are */
     this.tables = new Map();
     /** @type {WeakMap<Definition, Declaration[]>} those of its range, where they were asked for */
@@ -191,13 +193,16 @@ export class Folder {
   /** @param {string} specifier @returns {Places} */
   placesOf(specifier) {
     let found = this.places.get(specifier);
-    if (!found) this.places.set(specifier, (found = Places.of(this.sources.modules.get(specifier)?.file ?? '')));
+    if (!found) {
+      const text = this.texts.get(specifier);
+      this.places.set(specifier, (found = text ? new Places(text) : Places.of(this.sources.modules.get(specifier)?.file ?? '')));
+    }
     return found;
   }
 
   /** @param {string} specifier of a module with a tree @param {Buffer} text as its tree has it: its file needn't be read again for places */
   takeText(specifier, text) {
-    if (!this.places.has(specifier)) this.places.set(specifier, new Places(text));
+    this.texts.set(specifier, text);
   }
 
   /** @param {string} specifier @param {number} at in bytes @returns {{ file: string, line: number, column: number }} */

@@ -45,13 +45,22 @@ function joined(texts) {
   return [...new Set(texts)].join('+');
 }
 
+/** @type {WeakMap<import('../folder/kept.js').Parsed, Signatures>} of trees that were read: those that two directories have alike are read once */
+const READ = new WeakMap();
+
+/** @param {import('../folder/sources.js').Module | undefined} module @returns {Signatures} without nodes where it isn't read */
+function signaturesIn(module) {
+  const known = module ? READ.get(module.parsed) : undefined;
+  const found = known ?? new Signatures(module ? Tree.of(module) : new Tree('', [], false));
+  if (module) READ.set(module.parsed, found);
+  return found;
+}
+
 class Gathering {
   /** @param {Folder} folder @param {Names} names */
   constructor(folder, names) {
     this.folder = folder;
     this.names = names;
-    /** @type {Map<string, Tree>} */
-    this.trees = new Map();
     /** @type {Map<string, Signatures>} */
     this.written = new Map();
     /** @type {Map<string, Namespaces>} */
@@ -62,23 +71,12 @@ class Gathering {
     this.hasBlocks = [...folder.sources.modules.values()].some((it) => it.parsed.blocks.length > 0);
   }
 
-  /** @param {string} module @returns {Tree} without nodes where it isn't read */
-  treeOf(module) {
-    let found = this.trees.get(module);
-    if (!found) {
-      const source = this.folder.sources.modules.get(module);
-      this.trees.set(module, (found = source ? Tree.of(source) : new Tree('', [], false)));
-    }
-    return found;
-  }
-
   /** @param {string} module @returns {Signatures} */
   signatures(module) {
     let found = this.written.get(module);
     if (!found) {
-      const tree = this.treeOf(module);
-      this.written.set(module, (found = new Signatures(tree)));
-      if (tree.nodes.length > 0) this.folder.takeText(module, found.bytes);
+      this.written.set(module, (found = signaturesIn(this.folder.sources.modules.get(module))));
+      if (found.tree.nodes.length > 0) this.folder.takeText(module, found.bytes);
     }
     return found;
   }
@@ -120,7 +118,7 @@ class Gathering {
   /** @param {string} module @returns {Namespaces} */
   namespacesOf(module) {
     let found = this.namespaces.get(module);
-    if (!found) this.namespaces.set(module, (found = new Namespaces(this.treeOf(module))));
+    if (!found) this.namespaces.set(module, (found = new Namespaces(this.signatures(module).tree)));
     return found;
   }
 
@@ -277,7 +275,7 @@ class Levels {
     this.exports = exports;
     this.names = all.names;
     this.all = all;
-    this.words = new TypeWords(folder, exports, (module) => this.all.treeOf(module));
+    this.words = new TypeWords(folder, exports, (module) => this.all.signatures(module).tree);
   }
 
   /** @param {string} entry @param {string} module @param {{ name: string, top: string } | null} above the namespace that it is @param {boolean} isType @param {string[]} within @returns {Wanted[]} its exports */
