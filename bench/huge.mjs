@@ -2,16 +2,18 @@
 //
 //   node bench/huge.mjs [--megabytes 17] [--rounds 3] [--kinds interface,namespace] [--command]
 //
-// In each round two processes run one after the other: one parses the text with TypeScript; one converts it as symdir does, parsing
-// included. Each times its work alone, once the text is read and TypeScript is loaded. With --command the second process is a whole
-// run of `symdir graph` without a cache. It prints the least times of the rounds in seconds, and the ratio to the parser's.
-import { spawnSync } from 'node:child_process';
+// In each round two processes run one after the other: one parses the text with TypeScript, V8 as it is by itself; one converts it as
+// symdir does, parsing included. Each times its work alone, once the text is read and TypeScript is loaded: on the clock, and of all
+// processors, that of V8's threads included. With --command the second process is a whole run of `symdir graph` without a cache. It
+// prints the least times of the rounds in seconds, and the ratio to the parser's.
 import { mkdtempSync, readFileSync, rmSync, writeFileSync } from 'node:fs';
 import os from 'node:os';
 import path from 'node:path';
 import { fileURLToPath } from 'node:url';
 
-import { argumentsOf, usageError } from './measuring.mjs';
+import { argumentsOf, least, plainEnvironment, timeText, timedRun, usageError } from './measuring.mjs';
+
+/** @typedef {import('./measuring.mjs').Time} Time */
 
 const SELF = fileURLToPath(import.meta.url);
 const COMMAND = fileURLToPath(new URL('../symdir/bin/symdir.js', import.meta.url));
@@ -53,39 +55,41 @@ function textOf(kind, bytes) {
   return parts.join('');
 }
 
-/** @param {string} file @returns {Promise<number>} seconds that TypeScript's parser takes */
+/** @template T @param {() => T} work @returns {{ time: Time, made: T }} */
+function timed(work) {
+  const [began, before] = [performance.now(), process.cpuUsage()];
+  const made = work();
+  const { user, system } = process.cpuUsage(before);
+  return { time: { clock: (performance.now() - began) / 1e3, processors: (user + system) / 1e6 }, made };
+}
+
+/** @param {string} file @returns {Promise<Time>} that TypeScript's parser takes */
 async function parse(file) {
+  const [{ useTypeScript }, { findTypeScript }] = await Promise.all([import('../symdir/lib/tree/which.js'), import('../symdir/lib/typescript.js')]);
+  useTypeScript({ typescript: findTypeScript(process.cwd()).file, isGuest: true });
   const { ts } = await import('../symdir/lib/tree/typescript.js');
   const text = readFileSync(file, 'utf8');
-  const began = performance.now();
-  const made = ts.createSourceFile(file, text, ts.ScriptTarget.Latest, false, ts.ScriptKind.TS);
-  const took = performance.now() - began;
+  const { time, made } = timed(() => ts.createSourceFile(file, text, ts.ScriptTarget.Latest, false, ts.ScriptKind.TS));
   if (/** @type {any} */ (made).parseDiagnostics.length > 0) throw new Error('the text has a fault');
-  return took / 1000;
+  return time;
 }
 
-/** @param {string} file @returns {Promise<number>} seconds that symdir takes to parse and convert */
+/** @param {string} file @returns {Promise<Time>} that symdir takes to parse and convert */
 async function convert(file) {
   const { parseFile } = await import('../symdir/lib/folder/parse.js');
-  const began = performance.now();
-  const made = parseFile({ file, specifier: 'file:///a.ts' }, { bodies: false, ambient: true });
-  const took = performance.now() - began;
+  const { time, made } = timed(() => parseFile({ file, specifier: 'file:///a.ts' }, { bodies: false, ambient: true }));
   if (made.fault) throw new Error('the text has a fault');
-  return took / 1000;
+  return time;
 }
 
-/** @param {string[]} words of Node @returns {string} what it prints */
-function run(words) {
-  const { status, signal, stdout, stderr } = spawnSync(process.execPath, words, { encoding: 'utf8' });
-  if (status !== 0) throw new Error(`${words.join(' ')}: status ${status}, signal ${signal}: ${stderr}`);
-  return stdout;
+/** @param {string[]} words of Node @returns {Time} that a run of this program prints */
+function printed(words) {
+  return JSON.parse(timedRun(words, process.env, 0).stdout);
 }
 
-/** @param {string} folder @param {string} file @returns {number} seconds that a run of the command takes */
+/** @param {string} folder @param {string} file @returns {Time} that a run of the command takes */
 function commanded(folder, file) {
-  const began = performance.now();
-  run([COMMAND, 'graph', '--no-cache', folder, '-o', path.join(path.dirname(folder), 'graph.json')]);
-  return (performance.now() - began) / 1000;
+  return timedRun([COMMAND, 'graph', '--no-cache', folder, '-o', path.join(path.dirname(folder), 'graph.json')], plainEnvironment(), 0).time;
 }
 
 /** @param {string} kind @param {{ megabytes: number, rounds: number, command: boolean }} how */
@@ -95,9 +99,9 @@ function compare(kind, { megabytes, rounds, command }) {
     const file = path.join(made, 'a.ts');
     writeFileSync(file, textOf(kind, megabytes * 1e6));
     const flags = ['--max-semi-space-size=64', '--max-old-space-size=8192', SELF];
-    const times = Array.from({ length: rounds }, () => [Number(run([...flags, '--time', 'parse', file])), command ? commanded(made, file) : Number(run([...flags, '--time', 'convert', file]))]);
-    const [parser, ours] = [0, 1].map((k) => Math.min(...times.map((it) => it[k])));
-    console.log(`${kind.padEnd(10)} parser ${parser.toFixed(2)} s, ${command ? 'symdir graph' : 'converted'} ${ours.toFixed(2)} s (${(ours / parser).toFixed(2)}); load ${os.loadavg()[0].toFixed(1)}`);
+    const times = Array.from({ length: rounds }, () => [printed([...flags, '--time', 'parse', file]), command ? commanded(made, file) : printed([...flags, '--time', 'convert', file])]);
+    const [parser, ours] = [0, 1].map((k) => least(times.map((it) => it[k])));
+    console.log(`${kind.padEnd(10)} parser ${timeText(parser)}; ${command ? 'symdir graph' : 'converted'} ${timeText(ours, parser)}; load ${os.loadavg()[0].toFixed(1)}`);
   } finally {
     rmSync(made, { recursive: true });
   }
@@ -106,7 +110,7 @@ function compare(kind, { megabytes, rounds, command }) {
 const { values, positionals: [file] } = argumentsOf(USAGE, {
   megabytes: { type: 'string', default: '17' }, rounds: { type: 'string', default: '3' }, kinds: { type: 'string', default: KINDS.join(',') },
   command: { type: 'boolean', default: false }, time: { type: 'string' } });
-if (values.time) console.log(await (values.time === 'parse' ? parse(file) : convert(file)));
+if (values.time) console.log(JSON.stringify(await (values.time === 'parse' ? parse(file) : convert(file))));
 else {
   const kinds = String(values.kinds).split(',');
   const odd = kinds.find((it) => !KINDS.includes(it));

@@ -105,7 +105,7 @@ test('bench/huge.mjs says how it is called', () => {
   assert.deepEqual(said('--none'), { status: 2, stdout: '', stderr: `huge.mjs: Unknown option '--none'\n${usage}` });
   assert.deepEqual(said('--kinds', 'x'), { status: 2, stdout: '', stderr: `huge.mjs: no kind x: there are docs, imports, classes, object, interface, namespace, mixed\n${usage}` });
   assert.deepEqual(said('--rounds', '0'), { status: 2, stdout: '', stderr: `huge.mjs: --megabytes and --rounds are numbers from 1\n${usage}` });
-  assert.match(said('--megabytes', '0.01', '--rounds', '1', '--kinds', 'docs,object').stdout, /^docs +parser [\d.]+ s, converted [\d.]+ s \([\d.]+\); load [\d.]+\nobject .*\n$/);
+  assert.match(said('--megabytes', '0.01', '--rounds', '1', '--kinds', 'docs,object').stdout, /^docs +parser clock [\d.]+ s, processors [\d.]+ s; converted clock [\d.]+ s \([\d.]+\), processors [\d.]+ s \([\d.]+\); load [\d.]+\nobject .*\n$/);
 });
 
 /** @param {string} text of a program in Python, among the tools @param {Record<string, string>} [env] */
