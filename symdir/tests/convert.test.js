@@ -4,6 +4,7 @@ import { createRequire } from 'node:module';
 import path from 'node:path';
 import test from 'node:test';
 import { fileURLToPath } from 'node:url';
+import v8 from 'node:v8';
 
 import { convert, nodesOf } from '../lib/tree/convert.js';
 import { Files } from '../lib/folder/files.js';
@@ -411,4 +412,28 @@ test('imports and exports of types alone say so', () => {
   assert.deepEqual(marked('export type { a } from "a"; export { type b, c } from "b"; export type { d }; export { type d as e };'),
     ['ExportNamed 0-27', 'ExportSpecifier 37-43', 'ExportNamed 59-77', 'ExportSpecifier 87-98']);
   assert.deepEqual(marked('import type a = require("a"); import type from "b"; import { type } from "c"; export * from "d"; export { type as f } from "e";'), ['TsImportEqualsDecl 0-29']);
+});
+
+test('while a long text is parsed the heap may grow to what its tree takes before V8 looks for garbage, and as usual then', (t) => {
+  /** @type {string[]} */
+  const flags = [];
+  let used = 20_000_000;
+  t.mock.method(v8, 'getHeapStatistics', () => ({ used_heap_size: used }));
+  t.mock.method(v8, 'setFlagsFromString', (/** @type {string} */ it) => flags.push(it));
+  const flagsFor = (/** @type {string} */ text) => {
+    flags.length = 0;
+    convert('a.ts', text, { ...languageOf('a.ts'), ...PLAIN });
+    return flags.map((it) => it.replace('--heap-growing-percent=', ''));
+  };
+  const budget = '--interrupt-budget=135168';
+  assert.deepEqual(flagsFor('x;'.padEnd(999_999)), []);
+  // 64 bytes of objects for each unit
+  assert.deepEqual(flagsFor('x;'.padEnd(1_000_000)), [budget, '320', '0']);
+  assert.deepEqual(flagsFor('x;'.padEnd(4_000_000)), [budget, '1280', '0']);
+  used = 40_000_000;
+  assert.deepEqual(flagsFor('x;'.padEnd(1_000_000)), [budget, '0', '0']);
+  // what the parser gives up
+  used = 20_000_000;
+  assert.throws(() => flagsFor('('.repeat(1_000_000)), RangeError);
+  assert.deepEqual(flags.slice(-2), ['--heap-growing-percent=320', '--heap-growing-percent=0']);
 });

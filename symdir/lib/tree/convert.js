@@ -3,7 +3,7 @@ import { Converter, K, hasModifier, ts } from './converter.js';
 import { declaredNames, hoistBody } from './scopes.js';
 import { TreeNode, numbered } from './node.js';
 import { TreeText } from './treetext.js';
-import { expect } from './typescript.js';
+import { expect, expectNone } from './typescript.js';
 import { overNewer } from './newer.js';
 import { item } from './items.js';
 import { moduleName } from './names.js';
@@ -74,6 +74,8 @@ function parsed(name, source, options) {
     // what the parser noted of a text that it left halfway would stand for the next one, until it comes to an end
     ts.createSourceFile(name, '', /** @type {any} */ (how), false, kind);
     throw error;
+  } finally {
+    expectNone(source);
   }
 }
 

@@ -7,7 +7,7 @@ import { Script } from 'node:vm';
 
 import { findTypeScript } from '../typescript.js';
 import { replaceFile } from '../write.js';
-import { optimize, saveMemory } from './budget.js';
+import { growFor, optimize, saveMemory } from './budget.js';
 import { LONG_TEXT } from './memory.js';
 import { usedTypeScript } from './which.js';
 
@@ -90,9 +90,16 @@ const which = usedTypeScript()?.it ?? { typescript: findTypeScript(process.cwd()
 const kept = readStored(which.kept);
 await usedTypeScript()?.when;
 if (!which.isGuest) optimize(true);
-/** @param {string} text that will be parsed: for a long one it is worth it that V8 optimizes as usual */
+/** @param {string} text that will be parsed, until `expectNone` is called: for a long one it is worth it that V8 optimizes as usual, and looks for garbage seldom */
 export function expect(text) {
-  if (text.length >= LONG_TEXT && !which.isGuest) optimize(false);
+  if (text.length < LONG_TEXT || which.isGuest) return;
+  optimize(false);
+  growFor(text.length);
+}
+
+/** @param {string} text that is parsed */
+export function expectNone(text) {
+  if (text.length >= LONG_TEXT && !which.isGuest) saveMemory();
 }
 
 const ascii = kept ? null : inAscii(readParser(which.typescript, 'latin1'));
