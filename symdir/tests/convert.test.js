@@ -437,3 +437,12 @@ test('while a long text is parsed the heap may grow to what its tree takes befor
   assert.throws(() => flagsFor('('.repeat(1_000_000)), RangeError);
   assert.deepEqual(flags.slice(-2), ['--heap-growing-percent=320', '--heap-growing-percent=0']);
 });
+
+test('a type of the module goes before a value of a scope within, and a value before nothing', () => {
+  const list = nodes('interface A {} type B = 1; declare function f(A: A, C: typeof C, D: D): B; interface G<A> { a: A; b(B: typeof B): B }');
+  const [, inFunction, , inInterface] = scopes(list, 'A');
+  const [, , inMethod] = scopes(list, 'B');
+  assert.equal(new Set([1, inFunction, inInterface, inMethod]).size, 4);
+  assert.deepEqual(['A', 'B', 'C', 'D'].map((it) => scopes(list, it)),
+    [[1, inFunction, 1, inInterface], [1, 1, inMethod, inMethod, 1], [inFunction, inFunction], [inFunction, inFunction]]);
+});

@@ -60,7 +60,8 @@ export class Converter {
     this.options = options;
     this.byte = byteOffsets(text);
     this.nodes = new Nodes(text.length);
-    this.scope = new Scope(MODULE_SCOPE, null);
+    this.module = new Scope(MODULE_SCOPE, null);
+    this.scope = this.module;
     this.scopes = MODULE_SCOPE;
     this.bodyScopes = BODY_SCOPES;
     this.inType = false;
@@ -237,10 +238,12 @@ export class Converter {
     return made;
   }
 
-  /** @param {string} name @param {boolean} inType @returns {number} the scope that declares it: of a type, types go first */
+  /** @param {string} name @param {boolean} inType @returns {number} the scope that declares it: of a type, types go first. A name that no other one declares is the module's */
   scopeOf(name, inType) {
-    if (inType) for (let it = /** @type {Scope | null} */ (this.scope); it; it = it.above) if (it.hasType(name)) return it.number;
-    for (let it = /** @type {Scope | null} */ (this.scope); it; it = it.above) if (it.hasValue(name)) return it.number;
+    if (inType) for (let it = this.scope; it.above; it = it.above) if (it.hasType(name)) return it.number;
+    for (let it = this.scope; it.above; it = it.above) {
+      if (it.hasValue(name)) return inType && this.module.hasType(name) ? MODULE_SCOPE : it.number;
+    }
     return MODULE_SCOPE;
   }
 

@@ -58,7 +58,7 @@ function importNode(c, it) {
 /** @param {Converter} c @param {import('typescript').Identifier} name that is exported @returns {[string, number]} */
 function exportedName(c, name) {
   const text = textOf(name);
-  for (let it = /** @type {import('./scopes.js').Scope | null} */ (c.scope); it; it = it.above) {
+  for (let it = c.scope; it.above; it = it.above) {
     if (it.hasValue(text) || it.hasType(text)) return [text, it.number];
   }
   return [text, MODULE_SCOPE];

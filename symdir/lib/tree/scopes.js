@@ -7,25 +7,52 @@ const { forEachChild, idText, isBindingElement, isBlock, isClassLike, isFunction
 /** The scope of the module's own names, and of names that no scope declares. */
 export const MODULE_SCOPE = 1;
 
+/** The most names that are looked through one by one. */
+const FEW = 8;
+
+/** Names that a scope declares: a list, since most scopes have few, and the many of a module are mostly never looked up. */
+class Names {
+  constructor() {
+    /** @type {string[]} some of them twice */
+    this.list = [];
+    /** @type {Set<string> | null} the same once one of many is looked up */
+    this.set = null;
+  }
+
+  /** @param {string} name */
+  add(name) {
+    this.list.push(name);
+    if (this.set !== null) this.set.add(name);
+  }
+
+  /** @param {string} name @returns {boolean} */
+  has(name) {
+    const { list } = this;
+    if (list.length > FEW) return (this.set ??= new Set(list)).has(name);
+    for (let i = 0; i < list.length; i++) if (list[i] === name) return true;
+    return false;
+  }
+}
+
 export class Scope {
   /** @param {number} number @param {Scope | null} above */
   constructor(number, above) {
     this.number = number;
     this.above = above;
-    /** @type {Set<string> | null} most scopes have no names, or of one sort alone */
+    /** @type {Names | null} most scopes have no names, or of one sort alone */
     this.valueNames = null;
-    /** @type {Set<string> | null} */
+    /** @type {Names | null} */
     this.typeNames = null;
   }
 
-  /** @returns {Set<string>} */
+  /** @returns {Names} */
   get values() {
-    return (this.valueNames ??= new Set());
+    return (this.valueNames ??= new Names());
   }
 
-  /** @returns {Set<string>} */
+  /** @returns {Names} */
   get types() {
-    return (this.typeNames ??= new Set());
+    return (this.typeNames ??= new Names());
   }
 
   /** @param {string} name @returns {boolean} */
@@ -51,14 +78,14 @@ export function textOf(name) {
 }
 
 /**
- * Puts the names that a pattern binds into the set.
+ * Adds the names that a pattern binds.
  * @param {import('typescript').BindingName | undefined} name
- * @param {Set<string>} set
+ * @param {Names} names
  */
-export function bindNames(name, set) {
+export function bindNames(name, names) {
   if (!name) return;
-  if (isIdentifier(name)) set.add(textOf(name));
-  else for (const element of name.elements) if (isBindingElement(element)) bindNames(element.name, set);
+  if (isIdentifier(name)) names.add(textOf(name));
+  else for (const element of name.elements) if (isBindingElement(element)) bindNames(element.name, names);
 }
 
 /** @param {import('typescript').BindingName} name @returns {import('typescript').Identifier[]} what it binds, in the order of the text */
@@ -183,5 +210,5 @@ export function declaredNames(it) {
   const scope = new Scope(0, null);
   hoist([it], scope);
   hoistVars(it, scope);
-  return isImportDeclaration(it) ? [] : [...new Set([...scope.values, ...scope.types])];
+  return isImportDeclaration(it) ? [] : [...new Set([...scope.values.list, ...scope.types.list])];
 }
