@@ -79,6 +79,15 @@ test('a tree of several pieces, with a text that is longer than one, whose memor
   assert.ok(counted < 1_500_000 && text.length > 7_000_000, `${counted} of ${text.length}`);
 });
 
+test('a text that begins a piece, whatever is in it', () => {
+  for (const text of ['plain '.repeat(200_000), 'é"\\\n\u2028😀\u007f'.repeat(150_000), `${'plain '.repeat(200_000)}é`]) {
+    const items = ['', text, 'x', text].map((value) => new TreeNode('Str', 1, 2, { value }));
+    items.push(new TreeNode('Ident', 3, 4, { sym: [text, 5] }), new TreeNode('Other', 6, 7, { plain: true, value: text, left: new TreeNode('Str', 8, 9, { value: text }) }));
+    const { text: found, wanted, pieces } = written(items);
+    assert.ok(found === wanted && pieces.length > 6);
+  }
+});
+
 test('a long text\'s tree stands once, in memory that threads share, with what is before and behind it; where that doesn\'t fit, or can\'t be had, it is copied', () => {
   const items = (/** @type {number} */ count) => Array.from({ length: count }, (_, i) => new TreeNode('ExprStmt', i, i + 9, { expr: new TreeNode('Ident', i, i, { sym: [`n${i}`, 1] }) }));
   const made = (/** @type {number} */ count, /** @type {string} */ before) => {

@@ -2,7 +2,7 @@
 // node begins with, and names of fields, are written eight bytes at a time, and numbers four digits at a time.
 
 import { memoryFor, unaccounted } from './memory.js';
-import { END, FIELDS, FIELD_NAMES, KIND_NAMES, LIST, NEXT, NODE, SIZE, SORT, SORT_BITS, START, SYMBOL, TRUE } from './nodes.js';
+import { END, FIELDS, FIELD_NAMES, KIND, KIND_NAMES, LIST, NEXT, NODE, SIZE, SORT, SORT_BITS, START, SYMBOL, TEXT, TRUE } from './nodes.js';
 
 /** @typedef {import('./nodes.js').Made} Made */
 /** @typedef {import('./nodes.js').Nodes} Nodes */
@@ -17,7 +17,7 @@ const NUMBER_ROOM = 20;
 const NODE_ROOM = 1024;
 /** The most bytes that a unit of a text becomes. */
 const UNIT_ROOM = 6;
-const [QUOTE, COMMA, ZERO, OPEN, CLOSE, CLOSE_NODE, BACKSLASH] = [...'",0[]}\\'].map((it) => it.charCodeAt(0));
+const [QUOTE, COMMA, ZERO, CLOSE, CLOSE_NODE, BACKSLASH] = [...'",0]}\\'].map((it) => it.charCodeAt(0));
 const FIRST_PLAIN = 32;
 const LAST_PLAIN = 126;
 /** The largest number of two groups of digits. */
@@ -27,43 +27,49 @@ const GROUP = 10_000;
 const DIGITS = Uint32Array.from({ length: GROUP }, (_, i) => (
   (ZERO + ((i / 1000) | 0)) + (ZERO + (((i / 100) | 0) % 10)) * 0x100 + (ZERO + (((i / 10) | 0) % 10)) * 0x10000 + (ZERO + (i % 10)) * 0x1000000));
 
-/**
- * A text of ASCII, which no number that isn't one is a part of.
- * @typedef {object} Ascii
- * @property {number} length in bytes
- * @property {Float64Array} words its bytes, and more
- */
+/** The most words that a text in a table has, and how many texts a table has at most. */
+const [WORDS, TEXTS] = [8, 1024];
 
-/** @type {Ascii[]} what nodes begin with, by the number of their kind */
-const HEADS = [];
-/** @type {Ascii[]} how fields begin, by the numbers of their names */
-const NAMES = [];
+/** Texts of ASCII by their numbers. Their words stand in one list, since to look up an object for each text costs more than to write it. */
+class Table {
+  /** @param {(number: number) => string} textOf a number */
+  constructor(textOf) {
+    this.textOf = textOf;
+    /** In bytes; 0 of what wasn't written yet. */
+    this.lengths = new Uint8Array(TEXTS);
+    /** Eight bytes each. No text of ASCII is one that is no number. */
+    this.words = new Float64Array(TEXTS * WORDS);
+  }
 
-/** @param {string} text @returns {Ascii} */
-function asciiOf(text) {
-  const bytes = new Uint8Array(Math.ceil(text.length / 8) * 8);
-  for (let i = 0; i < text.length; i++) bytes[i] = text.charCodeAt(i);
-  const view = new DataView(bytes.buffer);
-  return { length: text.length, words: Float64Array.from({ length: bytes.length / 8 }, (_, i) => view.getFloat64(8 * i, true)) };
+  /** @param {number} number of a text that wasn't written yet @returns {number} how many bytes it has */
+  fill(number) {
+    const bytes = Buffer.from(this.textOf(number));
+    if (number >= TEXTS || bytes.length > 8 * WORDS) throw new RangeError(`no room for ${bytes}`);
+    const whole = Buffer.alloc(8 * WORDS);
+    bytes.copy(whole);
+    for (let i = 0; i < WORDS; i++) this.words[WORDS * number + i] = whole.readDoubleLE(8 * i);
+    this.lengths[number] = bytes.length;
+    return bytes.length;
+  }
+
+  /** @param {DataView} view @param {number} at @param {number} number of a text, for which there is room, and for two words more @returns {number} where it ends */
+  put(view, at, number) {
+    const length = this.lengths[number] || this.fill(number);
+    const { words } = this;
+    const word = WORDS * number;
+    view.setFloat64(at, words[word], true);
+    view.setFloat64(at + 8, words[word + 1], true);
+    for (let i = 16; i < length; i += 8) view.setFloat64(at + i, words[word + (i >> 3)], true);
+    return at + length;
+  }
 }
 
-const TRUE_TEXT = asciiOf('true');
-
-/** @param {number} kind @returns {Ascii} */
-function headOf(kind) {
-  return (HEADS[kind] ??= asciiOf(`,{"kind":"${KIND_NAMES[kind]}","range":[`));
-}
-
-/** @param {number} name @returns {Ascii} */
-function nameOf(name) {
-  return (NAMES[name] ??= asciiOf(`,"${FIELD_NAMES[name]}":`));
-}
-
-/** @param {DataView} view @param {number} at @param {Ascii} text for which there is room, and for a word more @returns {number} where it ends */
-function putAscii(view, at, { length, words }) {
-  for (let i = 0; i < words.length; i++) view.setFloat64(at + 8 * i, words[i], true);
-  return at + length;
-}
+/** What nodes begin with, by the number of their kind. */
+const HEADS = new Table((kind) => `,{"kind":"${KIND_NAMES[kind]}","range":[`);
+/** What fields of each sort begin with, or all of one. */
+const BEGINNINGS = { [TEXT]: '"', [TRUE]: 'true', [NODE]: '', [LIST]: '[', [SYMBOL]: '["' };
+/** How fields begin, by what their rows begin with. */
+const NAMES = new Table((field) => `,"${FIELD_NAMES[field >> SORT_BITS]}":${BEGINNINGS[field & SORT]}`);
 
 /** @param {DataView} view @param {number} at @param {number} value of four digits at most @returns {number} where it ends */
 function putGroup(view, at, value) {
@@ -90,9 +96,9 @@ function putNumber(view, at, value) {
   return from + 4;
 }
 
-/** @param {DataView} view @param {number} at @param {Ascii} head @param {number} start @param {number} end of the node's range @returns {number} where it ends */
-function putHead(view, at, head, start, end) {
-  const comma = putNumber(view, putAscii(view, at, head), start);
+/** @param {DataView} view @param {number} at @param {number} kind @param {number} start @param {number} end of the node's range @returns {number} where it ends */
+function putHead(view, at, kind, start, end) {
+  const comma = putNumber(view, HEADS.put(view, at, kind), start);
   view.setUint8(comma, COMMA);
   const close = putNumber(view, comma + 1, end);
   view.setUint8(close, CLOSE);
@@ -176,16 +182,15 @@ export class TreeWriter {
     this.at = 0;
   }
 
-  /** @param {string} text */
+  /** @param {string} text whose first quote is written. There is room for the next field then. */
   text(text) {
-    this.room(text.length * UNIT_ROOM + 2);
+    this.room(text.length * UNIT_ROOM + NODE_ROOM);
     const { bytes } = this;
     let { at } = this;
-    bytes[at++] = QUOTE;
     for (let i = 0; i < text.length; i++) {
       const unit = text.charCodeAt(i);
       if (unit < FIRST_PLAIN || unit > LAST_PLAIN || unit === QUOTE || unit === BACKSLASH) {
-        this.at += this.bytes.write(JSON.stringify(text), this.at);
+        this.at += this.bytes.write(JSON.stringify(text).slice(1), this.at);
         return;
       }
       bytes[at++] = unit;
@@ -224,23 +229,22 @@ export class TreeWriter {
     const end = words[made + NEXT];
     this.room(NODE_ROOM);
     let { view, at } = this;
-    at = putHead(view, at, headOf(words[made]), words[made + START], words[made + END]);
+    at = putHead(view, at, words[made + KIND], words[made + START], words[made + END]);
     let free = next;
     for (let field = made + FIELDS; field < end;) {
       const sort = words[field] & SORT;
-      at = putAscii(view, at, nameOf(words[field++] >> SORT_BITS));
+      at = NAMES.put(view, at, words[field++]);
       if (sort === NODE) {
         const child = words[field++];
         at = putNumber(view, at, free);
         free += words[child + SIZE];
         this.waiting[this.count++] = child;
-      } else if (sort === TRUE) at = putAscii(view, at, TRUE_TEXT);
-      else {
+      } else if (sort !== TRUE) {
         this.at = at;
         if (sort === LIST) free = this.list(words, field, free);
-        else this.value(nodes, field, sort === SYMBOL);
+        else this.text(nodes.texts[words[field]]);
+        if (sort === SYMBOL) this.scope(words[field + 1] >>> 0);
         field += sort === LIST ? 1 + words[field] : sort === SYMBOL ? 2 : 1;
-        this.room(NODE_ROOM);
         ({ view, at } = this);
       }
     }
@@ -248,38 +252,31 @@ export class TreeWriter {
     this.at = at + 1;
   }
 
-  /** @param {Nodes} nodes @param {number} at where a text's number stands @param {boolean} isSymbol whether that of a scope stands behind it */
-  value({ words, texts }, at, isSymbol) {
-    if (isSymbol) this.symbol(texts[words[at]], words[at + 1] >>> 0);
-    else this.text(texts[words[at]]);
+  /** @param {number} scope of a symbol, behind its name */
+  scope(scope) {
+    const { view } = this;
+    view.setUint8(this.at, COMMA);
+    const close = putNumber(view, this.at + 1, scope);
+    view.setUint8(close, CLOSE);
+    this.at = close + 1;
   }
 
-  /** @param {string} name @param {number} scope */
-  symbol(name, scope) {
-    this.bytes[this.at++] = OPEN;
-    this.text(name);
-    this.room(2 * NUMBER_ROOM);
-    this.bytes[this.at++] = COMMA;
-    this.at = putNumber(this.view, this.at, scope);
-    this.bytes[this.at++] = CLOSE;
-  }
-
-  /** @param {Int32Array} words @param {number} from where the length of the list stands @param {number} free @returns {number} */
+  /** @param {Int32Array} words @param {number} from where the length of the list stands, which isn't empty @param {number} free @returns {number} which is free behind it. There is room for the next field then. */
   list(words, from, free) {
     const count = words[from];
-    this.room((count + 1) * NUMBER_ROOM);
+    this.room(count * NUMBER_ROOM + NODE_ROOM);
     const { view, waiting } = this;
     let { at, count: last } = this;
     let next = free;
-    for (let i = 1; i <= count; i++) {
-      view.setUint8(at++, i === 1 ? OPEN : COMMA);
+    for (let i = from + 1; i <= from + count; i++) {
+      const made = words[i];
       at = putNumber(view, at, next);
-      const made = words[from + i];
+      view.setUint8(at++, COMMA);
       waiting[last++] = made;
       next += words[made + SIZE];
     }
-    view.setUint8(at, CLOSE);
-    this.at = at + 1;
+    view.setUint8(at - 1, CLOSE);
+    this.at = at;
     this.count = last;
     return next;
   }
