@@ -3,9 +3,13 @@ import { spawnSync } from 'node:child_process';
 import { writeFileSync } from 'node:fs';
 import path from 'node:path';
 import test from 'node:test';
+import v8 from 'node:v8';
 
+import { Files } from '../lib/folder/files.js';
 import { Pool } from '../lib/folder/pool.js';
 import { queueOf, take } from '../lib/folder/queue.js';
+import { Sources } from '../lib/folder/sources.js';
+import { optimize } from '../lib/tree/budget.js';
 import { ts } from '../lib/tree/typescript.js';
 import { findTypeScript } from '../lib/typescript.js';
 import { BIN, folderOf, waitingTypeScript } from './helper.js';
@@ -137,4 +141,26 @@ test('a process that waits for the start of a thread alone goes on', () => {
     console.log('it runs');`;
   const { status, stdout } = spawnSync(process.execPath, ['--input-type=module', '-e', program], { encoding: 'utf8' });
   assert.deepEqual([status, stdout], [0, 'it runs\n']);
+});
+
+test('in all threads V8 is set for a short run, and looks for memory as usual where trees have many bytes', (t) => {
+  const set = t.mock.method(v8, 'setFlagsFromString', () => {});
+  const taken = () => {
+    const found = set.mock.calls.map((it) => it.arguments[0]);
+    set.mock.resetCalls();
+    return found;
+  };
+  optimize(true);
+  assert.deepEqual(taken(), ['--interrupt-budget=750000', '--heap-growing-percent=1000']);
+  optimize(false);
+  assert.deepEqual(taken(), ['--interrupt-budget=135168', '--heap-growing-percent=0']);
+  const reading = { folder: folderOf({}), skip: [], bodies: false, ambient: true, cache: false, javascript: false, packages: false, progress: () => {} };
+  const sources = (/** @type {object} */ more) => new Sources(/** @type {any} */ ({ reading: { ...reading, ...more }, files: new Files(reading.folder, []) }));
+  const [own, guest] = [sources({}), sources({ typescript: { file: '', version: '' } })];
+  for (const [bytes, wanted] of /** @type {[number, string[]][]} */ ([[15_999_999, []], [1, ['--heap-growing-percent=0']], [1, []]])) {
+    own.count(/** @type {any} */ ({ text: { length: bytes } }));
+    assert.deepEqual(taken(), wanted);
+    guest.count(/** @type {any} */ ({ text: { length: bytes } }));
+    assert.deepEqual(taken(), []);
+  }
 });
